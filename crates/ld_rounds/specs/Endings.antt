@@ -1,9 +1,10 @@
 -- Why a drive ends in a round.
-use Rattle.std.specs.Prelude.{ℕ, ◌≤◌, List, ◌++◌, Option}
+use Rattle.std.specs.Prelude.{ℕ, ◌≡◌, ◌≤◌, List, ◌++◌, Option, Some}
 use Rattle.std.specs.Io.KnownBytes.{Appends}
 use Rattle.ld_io.specs.Causes.{Rose}
 use Rattle.ld_transcript.specs.declared.line.Line.{Line}
 use Rattle.ld_transcript.specs.Text.{text}
+use Rattle.ld_wire.specs.declared.fault.WireFault.{WireFault}
 use Rattle.ld_rounds.specs.declared.ended.Ended.{Ended}
 use Rattle.ld_rounds.specs.declared.ended.Ended.TheVariants as ends
 use Rattle.ld_rounds.specs.Ends.{IsSaid}
@@ -27,3 +28,8 @@ IsEnding before now old new ends.Write = Rose before now
 IsEnding before now old new ends.NoMemory = Unit {0}
 IsEnding before now old new (ends.BadFrame fault) = Unit {0}
 IsEnding before now old new ended = SaysWhy old new ended
+
+-- where it ends by what begins no frame, that is why the nodes say so
+abbrev pub IsOffAs : Option WireFault → Ended → Type 0
+IsOffAs off (ends.BadFrame fault) = off ≡ Some fault
+IsOffAs off _ = Unit {0}

@@ -8,13 +8,14 @@ ghost use Rattle.ld_node_bounds.specs.Messages.{AreMessages};
 ghost use Rattle.ld_machine.specs.State.{State};
 ghost use Rattle.ld_machine.specs.Step.{happens};
 ghost use Rattle.ld_bounds.specs.Sound.{IsSound};
+ghost use Rattle.ld_wire.specs.declared.fault.WireFault.{WireFault as FrameFault};
 ghost use Rattle.ld_dial.specs.Far.{Far};
 ghost use Rattle.ld_rounds.specs.Ends.{IsSaid};
 ghost use Rattle.ld_rounds.specs.Acts.{IsActed, Own, driver};
 ghost use Rattle.ld_rounds.specs.Drives.{AreOfConfig, Holds, GoesOn, AllTaken, IsBroken, AreLater};
 ghost use Rattle.ld_rounds.specs.Rounds.{IsOne, IsBegun, IsRetry, MayRetry, Adds, AddsUntil, Prepares, PreparesUntil, Rounds, RoundsUntil, taken_of, tells_full};
 ghost use Rattle.ld_rounds.specs.Taking.{TookAppends};
-ghost use Rattle.ld_rounds.specs.Endings.{IsEnding, IsLater};
+ghost use Rattle.ld_rounds.specs.Endings.{IsEnding, IsLater, IsOffAs};
 ghost use Rattle.ld_rounds.specs.Feeding.{IsInputEnding, IsAppendEnding, upcoming, WasOver, NextIs, SameBehind};
 ghost use Rattle.ld_rounds.specs.Input.{Input};
 ghost use Rattle.ld_rounds.specs.Queued.{are_empty};
@@ -83,6 +84,7 @@ fn add<A: Appends, O: Sink>(
     ensures itself { A.own sequencer.new ≡ A.own sequencer.old }
     ensures since { A.since sequencer.old sequencer.new }
     ensures cause { IfErr result (IsEnding (O.faults out.old) (O.faults out.new) (O.written out.old) (O.written out.new)) }
+    ensures off { (off : Option FrameFault) → IfErr result (IsOffAs off) }
     ensures later { IsLater (O.faults out.old) (O.faults out.new) (O.written out.old) (O.written out.new) }
 {
     let Ok(appended) = sequencer.append(alloc, name, payload) else {
@@ -106,6 +108,7 @@ fn again<A: Appends, O: Sink>(
     ensures itself { A.own sequencer.new ≡ A.own sequencer.old }
     ensures since { A.since sequencer.old sequencer.new }
     ensures cause { IfErr result (IsEnding (O.faults out.old) (O.faults out.new) (O.written out.old) (O.written out.new)) }
+    ensures off { (off : Option FrameFault) → IfErr result (IsOffAs off) }
     ensures later { IsLater (O.faults out.old) (O.faults out.new) (O.written out.old) (O.written out.new) }
 {
     let Ok(heard) = sequencer.retry(alloc, name) else {
@@ -176,6 +179,7 @@ fn add_all<A: Appends, P: Payloads, O: Sink>(
     ensures actor { A.own sequencer.new ≡ A.own sequencer.old }
     ensures since { A.since sequencer.old sequencer.new }
     ensures cause { IfErr result (IsAppendEnding (upcoming feed.old.held (P.coming input.old)) (P.faults input.old) (P.faults input.new) (O.faults out.old) (O.faults out.new) (O.written out.old) (O.written out.new)) }
+    ensures off { (off : Option FrameFault) → IfErr result (IsOffAs off) }
     ensures input_later { P.faults input.old ≤ P.faults input.new }
     ensures itself { P.identity input.new ≡ P.identity input.old }
     ensures later { IsLater (O.faults out.old) (O.faults out.new) (O.written out.old) (O.written out.new) }
@@ -213,6 +217,7 @@ fn prepare<A: Appends, P: Payloads, O: Sink>(
     ensures actor { A.own sequencer.new ≡ A.own sequencer.old }
     ensures since { A.since sequencer.old sequencer.new }
     ensures cause { IfErr result (IsAppendEnding (upcoming feed.old.held (P.coming input.old)) (P.faults input.old) (P.faults input.new) (O.faults out.old) (O.faults out.new) (O.written out.old) (O.written out.new)) }
+    ensures off { (off : Option FrameFault) → IfErr result (IsOffAs off) }
     ensures input_later { P.faults input.old ≤ P.faults input.new }
     ensures itself { P.identity input.new ≡ P.identity input.old }
     ensures later { IsLater (O.faults out.old) (O.faults out.new) (O.written out.old) (O.written out.new) }
@@ -246,6 +251,7 @@ fn append_round<A: Appends, N: Nodes, P: Payloads, O: Sink>(
     ensures actor { A.own sequencer.new ≡ A.own sequencer.old }
     ensures since { A.since sequencer.old sequencer.new }
     ensures cause { IfErr result (IsAppendEnding (upcoming feed.old.held (P.coming input.old)) (P.faults input.old) (P.faults input.new) (O.faults out.old) (O.faults out.new) (O.written out.old) (O.written out.new)) }
+    ensures off { IfErr result (IsOffAs (N.off nodes.new)) }
     ensures input_later { P.faults input.old ≤ P.faults input.new }
     ensures itself { P.identity input.new ≡ P.identity input.old }
     ensures later { IsLater (O.faults out.old) (O.faults out.new) (O.written out.old) (O.written out.new) }
@@ -288,6 +294,7 @@ pub fn append<A: Appends, N: Nodes, P: Payloads, O: Sink>(
     ensures actor { A.own sequencer.new ≡ A.own sequencer.old }
     ensures since { A.since sequencer.old sequencer.new }
     ensures cause { IfErr result (IsAppendEnding (P.coming input.old) (P.faults input.old) (P.faults input.new) (O.faults out.old) (O.faults out.new) (O.written out.old) (O.written out.new)) }
+    ensures off { IfErr result (IsOffAs (N.off nodes.new)) }
 {
     let mut feed = Feed::new();
     'rounds: for number in 0..rounds {

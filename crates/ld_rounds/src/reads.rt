@@ -1,5 +1,5 @@
 // A reader is driven until it is finished.
-ghost use Rattle.std.specs.Prelude.{◌≡◌, ◌⊎◌, ℕ, List, [], Bool, true, IfOk, IfErr, IfSome};
+ghost use Rattle.std.specs.Prelude.{◌≡◌, ◌⊎◌, ℕ, List, [], Option, Bool, true, IfOk, IfErr, IfSome};
 ghost use Rattle.ld_ids.specs.Set.{members};
 ghost use Rattle.ld_config.specs.declared.config.Config.{Config};
 ghost use Rattle.ld_config.specs.Bounds.{IsInBounds};
@@ -8,13 +8,14 @@ ghost use Rattle.ld_node_bounds.specs.Messages.{AreMessages};
 ghost use Rattle.ld_machine.specs.State.{State};
 ghost use Rattle.ld_machine.specs.Step.{happens};
 ghost use Rattle.ld_bounds.specs.Sound.{IsSound};
+ghost use Rattle.ld_wire.specs.declared.fault.WireFault.{WireFault as FrameFault};
 ghost use Rattle.ld_dial.specs.Far.{Far};
 ghost use Rattle.ld_rounds.specs.Ends.{IsSaid};
 ghost use Rattle.ld_rounds.specs.Acts.{IsActed, Own, driver};
 ghost use Rattle.ld_rounds.specs.Drives.{AreOfConfig, Holds, GoesOn, AllTaken, IsBroken, AreLater};
 ghost use Rattle.ld_rounds.specs.Rounds.{IsOne, IsBegun, IsPolled, IsReadRound, IsReadPart};
 ghost use Rattle.ld_rounds.specs.Taking.{TookReads};
-ghost use Rattle.ld_rounds.specs.Endings.{IsEnding, IsLater};
+ghost use Rattle.ld_rounds.specs.Endings.{IsEnding, IsLater, IsOffAs};
 
 use crate::{Actor, Ended, Heard, Queues, round, tell};
 use ld_dial::Nodes;
@@ -55,6 +56,7 @@ fn ask<R: Reads, O: Sink>(
     ensures itself { R.own reader.new ≡ R.own reader.old }
     ensures since { R.since reader.old reader.new }
     ensures cause { IfErr result (IsEnding (O.faults out.old) (O.faults out.new) (O.written out.old) (O.written out.new)) }
+    ensures off { (off : Option FrameFault) → IfErr result (IsOffAs off) }
     ensures later { IsLater (O.faults out.old) (O.faults out.new) (O.written out.old) (O.written out.new) }
 {
     let Ok(heard) = reader.poll(alloc, name) else {
@@ -79,6 +81,7 @@ fn begin<R: Reads, O: Sink>(
     ensures itself { R.own reader.new ≡ R.own reader.old }
     ensures since { R.since reader.old reader.new }
     ensures cause { IfErr result (IsEnding (O.faults out.old) (O.faults out.new) (O.written out.old) (O.written out.new)) }
+    ensures off { (off : Option FrameFault) → IfErr result (IsOffAs off) }
     ensures later { IsLater (O.faults out.old) (O.faults out.new) (O.written out.old) (O.written out.new) }
 {
     if is_sparing && queues.any(set) {
@@ -105,6 +108,7 @@ fn read_round<R: Reads, N: Nodes, O: Sink>(
     ensures itself { R.own reader.new ≡ R.own reader.old }
     ensures since { R.since reader.old reader.new }
     ensures cause { IfErr result (IsEnding (O.faults out.old) (O.faults out.new) (O.written out.old) (O.written out.new)) }
+    ensures off { IfErr result (IsOffAs (N.off nodes.new)) }
     ensures later { IsLater (O.faults out.old) (O.faults out.new) (O.written out.old) (O.written out.new) }
     ensures counts { AreLater (N.faults nodes.old) (N.faults nodes.new) (N.endings nodes.old) (N.endings nodes.new) }
 {
@@ -141,6 +145,7 @@ pub fn read<R: Reads, N: Nodes, O: Sink>(
     ensures itself { R.own reader.new ≡ R.own reader.old }
     ensures since { R.since reader.old reader.new }
     ensures cause { IfErr result (IsEnding (O.faults out.old) (O.faults out.new) (O.written out.old) (O.written out.new)) }
+    ensures off { IfErr result (IsOffAs (N.off nodes.new)) }
     ensures later { IsLater (O.faults out.old) (O.faults out.new) (O.written out.old) (O.written out.new) }
 {
     'rounds: for _ in 0..rounds {

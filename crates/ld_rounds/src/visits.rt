@@ -1,5 +1,5 @@
 // A round: each node is visited, and what waits for it is sent.
-ghost use Rattle.std.specs.Prelude.{◌≡◌, ◌⊎◌, ◌∷◌, [], ℕ, List, Option, Some, true, false, set, IsTrue, IfOk, IfErr, IfSome, MatchResult};
+ghost use Rattle.std.specs.Prelude.{◌≡◌, ◌≢◌, ◌⊎◌, ◌∷◌, [], ℕ, List, Option, Err, Some, true, false, set, IsTrue, IfOk, IfErr, IfSome, MatchResult};
 ghost use Rattle.ld_ids.specs.Set.{members};
 ghost use Rattle.ld_config.specs.declared.config.Config.{Config};
 ghost use Rattle.ld_config.specs.Bounds.{IsInBounds};
@@ -9,14 +9,15 @@ ghost use Rattle.ld_msg.specs.declared.msg.Who.TheVariants.{Node};
 ghost use Rattle.ld_msg.specs.Bounds.{IsMessage};
 ghost use Rattle.ld_node_bounds.specs.Messages.{AreMessages};
 ghost use Rattle.ld_machine.specs.State.{State};
-ghost use Rattle.ld_dial.specs.Far.{Far};
+ghost use Rattle.ld_wire.specs.declared.fault.WireFault.{WireFault as FrameFault};
+ghost use Rattle.ld_dial.specs.Far.{Far, KeepsFrame};
 ghost use Rattle.ld_rounds.specs.Queued.{queue_of};
 ghost use Rattle.ld_rounds.specs.Telling.{HasTold, IsTelling, is_of, is_answered, missed_by};
 ghost use Rattle.ld_rounds.specs.Drives.{Driver, AreOfConfig, Holds, GoesOn, AllTaken, WithNode, Answering, IsBroken, AreLater};
 ghost use Rattle.ld_rounds.specs.Rounds.{IsDelivered, IsReminded, RemindEnd, CalmEnd, Visiting, VisitEnd, IsVisit, AreVisits};
 ghost use Rattle.ld_rounds.specs.Acts.{IsDriverOf};
 ghost use Rattle.ld_rounds.specs.Ends.{IsSaid};
-ghost use Rattle.ld_rounds.specs.Endings.{IsEnding, IsLater};
+ghost use Rattle.ld_rounds.specs.Endings.{IsEnding, IsLater, IsOffAs};
 ghost use Rattle.ld_rounds.specs.Output.{WritesFault};
 
 use crate::{Actor, Ended, Heard, Queues, write_lines};
@@ -53,6 +54,8 @@ fn is_of(message: &Msg, node: NodeId) -> bool
 fn missed(fault: Fault) -> Result<bool, Ended>
     ensures value { result ≡ missed_by fault }
     ensures cause { (before : ℕ) (now : ℕ) (old : Option (List ℕ)) (new : Option (List ℕ)) → IfErr result (IsEnding before now old new) }
+    ensures off { (before : Option FrameFault) (off : Option FrameFault) → KeepsFrame before off (Err fault) → IfErr result (IsOffAs off) }
+    ensures unheard { ((frame : FrameFault) → fault ≢ Fault.BadFrame frame) → (off : Option FrameFault) → IfErr result (IsOffAs off) }
 {
     match fault {
         Fault::Link => Ok(false),
@@ -73,6 +76,7 @@ pub fn tell<O: Sink>(
         (λ _. HasTold heard queues.old queues.new (O.written out.old) (O.written out.new))
         (IsTelling heard queues.old queues.new (O.written out.old) (O.written out.new)) }
     ensures cause { IfErr result (λ ended. (heard.end ≡ Some ended) ⊎ WritesFault (O.faults out.old) (O.faults out.new) ended) }
+    ensures off { IfSome heard.end (IsSaid heard.lines.items) → (off : Option FrameFault) → IfErr result (IsOffAs off) }
     ensures ending { IfSome heard.end (IsSaid heard.lines.items) → IfErr result (IsEnding (O.faults out.old) (O.faults out.new) (O.written out.old) (O.written out.new)) }
     ensures later { IsLater (O.faults out.old) (O.faults out.new) (O.written out.old) (O.written out.new) }
 {
@@ -102,6 +106,7 @@ fn listen<A: Actor, N: Nodes, O: Sink>(
     ensures itself { A.own actor.new ≡ A.own actor.old }
     ensures since { A.since actor.old actor.new }
     ensures cause { IfErr result (IsEnding (O.faults out.old) (O.faults out.new) (O.written out.old) (O.written out.new)) }
+    ensures off { IfErr result (IsOffAs (N.off nodes.new)) }
     ensures later { IsLater (O.faults out.old) (O.faults out.new) (O.written out.old) (O.written out.new) }
     ensures counts { AreLater (N.faults nodes.old) (N.faults nodes.new) (N.endings nodes.old) (N.endings nodes.new) }
     ensures broken { IfOk result (λ on. on ≡ false → IsBroken (N.faults nodes.old) (N.faults nodes.new) (N.endings nodes.old) (N.endings nodes.new)) }
@@ -144,6 +149,7 @@ fn take<A: Actor, O: Sink>(
     ensures itself { A.own actor.new ≡ A.own actor.old }
     ensures since { A.since actor.old actor.new }
     ensures cause { IfErr result (IsEnding (O.faults out.old) (O.faults out.new) (O.written out.old) (O.written out.new)) }
+    ensures off { (off : Option FrameFault) → IfErr result (IsOffAs off) }
     ensures later { IsLater (O.faults out.old) (O.faults out.new) (O.written out.old) (O.written out.new) }
 {
     let Ok(heard) = actor.hear(alloc, answer) else {
@@ -171,6 +177,7 @@ fn remind<A: Actor, N: Nodes>(
     ensures itself { A.own actor.new ≡ A.own actor.old }
     ensures since { A.since actor.old actor.new }
     ensures cause { (before : ℕ) (now : ℕ) (old : Option (List ℕ)) (new : Option (List ℕ)) → IfErr result (IsEnding before now old new) }
+    ensures off { IfErr result (IsOffAs (N.off nodes.new)) }
     ensures counts { AreLater (N.faults nodes.old) (N.faults nodes.new) (N.endings nodes.old) (N.endings nodes.new) }
     ensures broken { IfOk result (λ on. on ≡ false → IsBroken (N.faults nodes.old) (N.faults nodes.new) (N.endings nodes.old) (N.endings nodes.new)) }
 {
@@ -209,6 +216,7 @@ fn exchange<A: Actor, N: Nodes, O: Sink>(
     ensures itself { A.own actor.new ≡ A.own actor.old }
     ensures since { A.since actor.old actor.new }
     ensures cause { IfErr result (IsEnding (O.faults out.old) (O.faults out.new) (O.written out.old) (O.written out.new)) }
+    ensures off { IfErr result (IsOffAs (N.off nodes.new)) }
     ensures later { IsLater (O.faults out.old) (O.faults out.new) (O.written out.old) (O.written out.new) }
     ensures counts { AreLater (N.faults nodes.old) (N.faults nodes.new) (N.endings nodes.old) (N.endings nodes.new) }
     ensures broken { IfOk result (λ on. on ≡ false → IsBroken (N.faults nodes.old) (N.faults nodes.new) (N.endings nodes.old) (N.endings nodes.new)) }
@@ -247,6 +255,7 @@ pub fn visit<A: Actor, N: Nodes, O: Sink>(
     ensures itself { A.own actor.new ≡ A.own actor.old }
     ensures since { A.since actor.old actor.new }
     ensures cause { IfErr result (IsEnding (O.faults out.old) (O.faults out.new) (O.written out.old) (O.written out.new)) }
+    ensures off { IfErr result (IsOffAs (N.off nodes.new)) }
     ensures later { IsLater (O.faults out.old) (O.faults out.new) (O.written out.old) (O.written out.new) }
     ensures counts { AreLater (N.faults nodes.old) (N.faults nodes.new) (N.endings nodes.old) (N.endings nodes.new) }
     ensures emptied { IfOk result (λ _. queue_of queues.new node ≡ []) }
@@ -295,6 +304,7 @@ pub fn round<A: Actor, N: Nodes, O: Sink>(
     ensures itself { A.own actor.new ≡ A.own actor.old }
     ensures since { A.since actor.old actor.new }
     ensures cause { IfErr result (IsEnding (O.faults out.old) (O.faults out.new) (O.written out.old) (O.written out.new)) }
+    ensures off { IfErr result (IsOffAs (N.off nodes.new)) }
     ensures later { IsLater (O.faults out.old) (O.faults out.new) (O.written out.old) (O.written out.new) }
     ensures counts { AreLater (N.faults nodes.old) (N.faults nodes.new) (N.endings nodes.old) (N.endings nodes.new) }
 {

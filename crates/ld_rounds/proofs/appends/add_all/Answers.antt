@@ -157,3 +157,8 @@ returns-then-branch-clause-since g c = g.met.A.Actor.since_on c.args.sequencer.n
 
 pub returns-in_err-add-clause-since : goal.returns-in_err-add-clause-since
 returns-in_err-add-clause-since g c = g.met.A.Actor.since_on c.args.sequencer.now c.payloads.sequencer c.add.new.sequencer c.payloads.invariant.7 c.in_err-add.ensures.since
+
+pub returns-in_err-add-clause-off : goal.returns-in_err-add-clause-off
+returns-in_err-add-clause-off g c off =
+    let p = err_from_is_err_and c.from_residual-in_err-add.result c.from_residual-in_err-add.ensures.1 in
+    rw (p.1, p.2) (c.in_err-add.ensures.off off)

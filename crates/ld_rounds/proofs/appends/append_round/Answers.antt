@@ -51,3 +51,8 @@ returns-clause-later g c = later_on _ _ _ _ _ _ c.in_ok-prepare.ensures.later c.
 
 pub returns-clause-since : goal.returns-clause-since
 returns-clause-since g c = g.met.A.Actor.since_on c.args.sequencer.now c.prepare.new.sequencer c.round.new.actor c.in_ok-prepare.ensures.since c.round.ensures.since
+
+pub returns-in_err-prepare-clause-off : goal.returns-in_err-prepare-clause-off
+returns-in_err-prepare-clause-off g c =
+    let p = err_from_is_err_and c.from_residual.result c.from_residual.ensures.1 in
+    rw (p.1, p.2) (c.in_err-prepare.ensures.off (g.N.Nodes.off c.args.nodes.now))

@@ -52,3 +52,8 @@ returns-clause-later g c = later_on _ _ _ _ _ _ c.in_ok-again.ensures.later c.ad
 
 pub returns-clause-since : goal.returns-clause-since
 returns-clause-since g c = g.met.A.Actor.since_on c.args.sequencer.now c.again.new.sequencer c.add_all-2.new.sequencer c.in_ok-again.ensures.since c.add_all-2.ensures.since
+
+pub returns-in_err-again-clause-off : goal.returns-in_err-again-clause-off
+returns-in_err-again-clause-off g c off =
+    let p = err_from_is_err_and c.from_residual.result c.from_residual.ensures.1 in
+    rw (p.1, p.2) (c.in_err-again.ensures.off off)

@@ -43,3 +43,8 @@ returns-clause-later g c = later_on _ _ _ _ _ _ c.in_ok-begin.ensures.later c.ro
 
 pub returns-clause-since : goal.returns-clause-since
 returns-clause-since g c = g.met.R.Actor.since_on c.args.reader.now c.begin.new.reader c.round.new.actor c.in_ok-begin.ensures.since c.round.ensures.since
+
+pub returns-in_err-begin-clause-off : goal.returns-in_err-begin-clause-off
+returns-in_err-begin-clause-off g c =
+    let p = err_from_is_err_and c.from_residual.result c.from_residual.ensures.1 in
+    rw (p.1, p.2) (c.in_err-begin.ensures.off (g.N.Nodes.off c.args.nodes.now))

@@ -90,3 +90,8 @@ returns-clause-since g c = g.met.A.Actor.since_on c.args.actor.now c.take.new.ac
 
 pub returns-clause-cause : goal.returns-clause-cause
 returns-clause-cause g c = c.remind.ensures.cause (g.O.Sink.faults c.args.out.now) (g.O.Sink.faults c.take.new.out) (g.O.Sink.written c.args.out.now) (g.O.Sink.written c.take.new.out)
+
+pub returns-in_err-take-clause-off : goal.returns-in_err-take-clause-off
+returns-in_err-take-clause-off g c =
+    let p = err_from_is_err_and c.from_residual.result c.from_residual.ensures.1 in
+    rw (p.1, p.2) (c.in_err-take.ensures.off (g.N.Nodes.off c.receive.new.self))
