@@ -1,5 +1,5 @@
 -- How the drive of a sequencer ends.
-use Rattle.std.proofs.Common.{◌≡◌, ◌⊎◌, inl, inr, ℕ, Bool, true, false, List, [], Option, None, Some, Ok, Err, refl, ap, ◌∙◌, subst, arith, IfErr, IfSome}
+use Rattle.std.proofs.Common.{◌≡◌, ◌⊎◌, inl, inr, ℕ, Bool, true, false, List, [], Option, None, Some, Ok, Err, refl, ap, ◌∙◌, ⊎_elim, subst, arith, IfErr, IfSome}
 use Rattle.std.specs.Prelude.{MatchResult}
 use Rattle.std.specs.declared.result.Result.{Result}
 use Rattle.std.specs.Io.KnownBytes.{Appends}
@@ -10,7 +10,8 @@ use Rattle.ld_rounds.specs.declared.actor.Heard.{Heard}
 use Rattle.ld_rounds.specs.declared.ended.Refusal.TheVariants as refusals
 use Rattle.ld_rounds.specs.declared.ended.Ended.{Ended}
 use Rattle.ld_rounds.specs.declared.ended.Ended.TheVariants as ends
-use Rattle.ld_rounds.specs.Endings.{IsLater}
+use Rattle.ld_wire.specs.declared.fault.WireFault.{WireFault}
+use Rattle.ld_rounds.specs.Endings.{IsLater, IsOffAs}
 use Rattle.ld_rounds.specs.Input.{Input}
 use Rattle.ld_rounds.specs.Feeding.{IsAppendEnding}
 use Rattle.ld_rounds.specs.Output.{WritesFault}
@@ -112,6 +113,19 @@ told_unframed ls e t = tt
 pub start_unframed : (ls : List Line) (o : Option Ended) → IfSome o (IsStartTold ls) → NoFrame o
 start_unframed ls None t = tt
 start_unframed ls (Some e) t = told_unframed ls e t
+
+-- so the nodes needn't say why
+off_start : (ls : List Line) (off : Option WireFault) (e : Ended) → IsStartTold ls e → IsOffAs off e
+off_start ls off (ends.BadFrame fault) t = absurd t
+off_start ls off e t = tt
+
+off_write : (before now : ℕ) (off : Option WireFault) (e : Ended) → WritesFault before now e → IsOffAs off e
+off_write before now off (ends.BadFrame fault) f = absurd f
+off_write before now off e f = tt
+
+pub start_off : (before now : ℕ) (ls : List Line) (end : Option Ended) (off : Option WireFault) (r : Result (Unit {0}) Ended) → IfSome end (IsStartTold ls) → IfErr r (λ e. (end ≡ Some e) ⊎ WritesFault before now e) → IfErr r (IsOffAs off)
+start_off before now ls end off (Ok u) t f = tt
+start_off before now ls end off (Err e) t f = ⊎_elim (λ is. off_start ls off e (subst (λ (o : Option Ended). IfSome o (IsStartTold ls)) is t)) (λ w. off_write before now off e w) f
 
 -- a drive that ends at the activation is neither done nor at a line that is off
 pub start_partly : (crowded : Type 0) (damaged : ℕ → Type 0) (before now : ℕ) (old new : Option (List ℕ)) (e : Ended) → IsStartEnding crowded damaged before now old new e → IsPartly e

@@ -15,7 +15,8 @@ use Rattle.ld_rounds.specs.declared.ended.Ended.{Ended}
 use Rattle.ld_rounds.specs.declared.ended.Ended.TheVariants as ends
 use Rattle.ld_rounds.specs.Input.{Input}
 use Rattle.ld_rounds.specs.Rounds.{IsOne, FeedsUntil, AppendsUntil}
-use Rattle.ld_rounds.specs.Endings.{IsLater, SaysWhy}
+use Rattle.ld_wire.specs.declared.fault.WireFault.{WireFault}
+use Rattle.ld_rounds.specs.Endings.{IsLater, SaysWhy, IsOffAs}
 use Rattle.ld_rounds.specs.Feeding.{IsAppendEnding}
 use Rattle.ld_rounds.specs.Refusals.{IsRefusal}
 use Rattle.ld_rounds.proofs.Feeding.{append_since, same_here}
@@ -89,6 +90,9 @@ unrefused damaged whole before now (Err ends.NoMemory) o = tt
 pub round_refused : (damaged : ℕ → Type 0) (whole : Type 0) (before now : ℕ) (kept : Option Ended) (r : Result Bool Ended)
     → ((q : Refusal) → kept ≡ Some (ends.Register q) → IsRefusal (λ place. (now ≡ before) × damaged place) ((now ≡ before) × whole) before now q) → IfErr (round_end kept r) (IsRefused damaged whole before now)
 round_refused damaged whole before now kept r h = by_round (λ x. IfErr x (IsRefused damaged whole before now)) kept r (λ o. unrefused damaged whole before now r o) (λ f e. by_kept (IsRefused damaged whole before now) kept tt h)
+
+pub round_off : (off : Option WireFault) (kept : Option Ended) (r : Result Bool Ended) → IfErr r (IsOffAs off) → IfErr (round_end kept r) (IsOffAs off)
+round_off off kept r h = by_round (λ x. IfErr x (IsOffAs off)) kept r (λ o. h) (λ f e. by_kept (IsOffAs off) kept tt (λ q x. tt))
 
 module _ (crowded : Type 0) (damaged : ℕ → Type 0) (i : Option Input) (p q k m : ℕ) (a c : Option (List ℕ)) where
   says_as : (f r : Refusal) → SaysWhy a c (ends.Register f) → SaysWhy a c (ends.Register r)

@@ -37,7 +37,8 @@ use Rattle.ld_rounds.specs.Drives.{Driver, IsDriven, AllTaken, Holds, Went, Stop
 use Rattle.ld_rounds.specs.Rounds.{IsOne, IsBegun, AreReadRounds, ReadsUntil}
 use Rattle.ld_rounds.specs.Taking.{TookReads}
 use Rattle.ld_rounds.specs.Reaching.{Begins, Reached}
-use Rattle.ld_rounds.specs.Endings.{IsEnding}
+use Rattle.ld_wire.specs.declared.fault.WireFault.{WireFault}
+use Rattle.ld_rounds.specs.Endings.{IsEnding, IsOffAs}
 use Rattle.ld_tail.specs.Looking.{IsLookEnd}
 use Rattle.ld_tail.specs.Readers.{Follows}
 use Rattle.ld_tail.specs.Tails.{HasNone, Wanted, opening, tailing, IsFinished, AreSteps, EndAt, IsTailed, IsTailEnd, DroveTail, end_of}
@@ -186,6 +187,17 @@ module _ (damaged : ℕ → Type 0) (k n before now : ℕ) where
   why_end (ends.BadLine line place) h = absurd h
   why_end ends.Read h = absurd h
   why_end ends.Write h = absurd h
+
+  off_why : (off : Option WireFault) (e : Ended) → IsLookEnd damaged k n e → IsOffAs off e
+  off_why off (ends.BadFrame fault) h = absurd h
+  off_why off e h = tt
+
+  pub end_off : (off : Option WireFault) (r : Result Bool Ended) (why : Ended) → IsLookEnd damaged k n why → IfErr r (IsOffAs off) → IsOffAs off (end_of r why)
+  end_off off (Ok true) why h i = tt
+  end_off off (Ok false) why h i = tt
+  end_off off (Err (ends.BadFrame fault)) why h i = i
+  end_off off (Err ends.Write) why h i = tt
+  end_off off (Err e) why h i = off_why off why h
 
   pub tail_end : (old new : Option (List ℕ)) (r : Result Bool Ended) (why : Ended) → IsLookEnd damaged k n why → IfErr r (IsEnding before now old new) → IsTailEnd damaged k n before now (end_of r why)
   tail_end old new (Ok true) why h i = tt

@@ -6,7 +6,7 @@ ghost use Rattle.ld_msg.specs.Register.{Register as Contents};
 ghost use Rattle.ld_machine.specs.State.{State};
 ghost use Rattle.ld_dial.specs.Far.{Far};
 ghost use Rattle.ld_rounds.specs.Drives.{IsBroken};
-ghost use Rattle.ld_rounds.specs.Endings.{IsEnding};
+ghost use Rattle.ld_rounds.specs.Endings.{IsEnding, IsOffAs};
 ghost use Rattle.ld_rounds.specs.Reaching.{Begins};
 ghost use Rattle.ld_tail.specs.Looking.{HasLooked};
 ghost use Rattle.ld_tail.specs.Tails.{HasNone, IsTailed, IsTailEnd, DroveTail, end_of};
@@ -55,6 +55,7 @@ fn drive<G: Register, N: Nodes, O: Sink>(
     ensures looked { HasLooked None reading.new.end (G.told reading.old.register) (G.told reading.new.register) (G.holds reading.old.register) (G.holds reading.new.register) (G.may_hold reading.old.register) (G.may_hold reading.new.register) (G.faults reading.old.register) (G.faults reading.new.register) (G.identity reading.old.register) (G.identity reading.new.register) }
     ensures damaged { (place : ℕ) → reading.new.end ≡ Some (Ended.Register (Refusal.Damaged place)) → G.told reading.old.register → G.damaged reading.old.register place }
     ensures cause { IfErr result (IsEnding (O.faults out.old) (O.faults out.new) (O.written out.old) (O.written out.new)) }
+    ensures off { IfErr result (IsOffAs (N.off nodes.new)) }
 {
     let Ok(_) = reading.look(alloc, from.epoch()) else {
         return Err(Ended::NoMemory);
@@ -130,6 +131,8 @@ pub fn tail<G: Register, N: Nodes, O: Sink>(
     ensures tailed { (s : State) (far : Far) → N.tells nodes.old config.now far → Begins (HasNone (G.tells register)) config.now s far
         → (N.silent nodes.new ≡ true) ⊎ IsTailed (record { name = name; log = log; from = from; until = until; style = style }) (IsBroken (N.faults nodes.old) (N.faults nodes.new) (N.endings nodes.old) (N.endings nodes.new)) rounds (N.tells nodes.new) (G.tells result.1) config.now s (O.written out.old) (O.written out.new) result.0 }
     ensures cause { IsTailEnd (λ place. G.told register → G.damaged register place) (G.faults register) (G.faults result.1) (O.faults out.old) (O.faults out.new) result.0 }
+    // It ends with `BadFrame` only by the fault that the nodes tell.
+    ensures off { IsOffAs (N.off nodes.new) result.0 }
     // Looks change nothing of the register.
     ensures told { G.told register → G.told result.1 }
     ensures same { (c : Contents) → G.may_hold result.1 c → G.may_hold register c }

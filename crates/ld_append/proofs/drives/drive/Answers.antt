@@ -18,7 +18,8 @@ use Rattle.ld_append.specs.Acting.{Serves, takes, MayCrowd, leaves_here}
 use Rattle.ld_append.proofs.Appending.{begun, start_as, stopped_append, drove_loud}
 use Rattle.ld_append.proofs.Ending.{rounds_cause}
 use Rattle.ld_append.proofs.Keeping.{refused_since}
-use Rattle.ld_append.proofs.Rounding.{round_cause, round_refused, round_loud}
+use Rattle.ld_rounds.specs.Endings.{IsOffAs}
+use Rattle.ld_append.proofs.Rounding.{round_cause, round_off, round_refused, round_loud}
 use Rattle.ld_append.specs.Refusing.{round_end}
 use Rattle.ld_append.proofs.drives.drive.Goals as goal
 
@@ -128,3 +129,13 @@ returns-clause-refused g c none =
     subst (λ (x : Result Bool Ended). IfErr x (IsRefused damaged whole (g.G.Register.faults a.register) (g.G.Register.faults y.register))) (sym (ended_round c.end.result y.end c.append-driven.result c.round_end.result c.end.ensures c.round_end.ensures))
     (round_refused damaged whole (g.G.Register.faults a.register) (g.G.Register.faults y.register) y.end c.append-driven.result
     (λ r h. refused_since (g.G.Register.damaged a.register) told (g.G.Register.holds a.register) (g.G.Register.holds z.register) (g.G.Register.holds y.register) (g.G.Register.faults a.register) (g.G.Register.faults z.register) (g.G.Register.faults y.register) z.end y.end (c.in_ok-start.ensures.on none) c.append-driven.ensures.since.2 r h))
+
+pub returns-in_err-start-clause-off : goal.returns-in_err-start-clause-off
+returns-in_err-start-clause-off g c =
+    let p = err_from_is_err_and c.from_residual.result c.from_residual.ensures.1 in
+    rw (p.1, p.2) (c.in_err-start.ensures.off (g.N.Nodes.off c.args.nodes.now))
+
+pub returns-clause-off : goal.returns-clause-off
+returns-clause-off g c =
+    let off = g.N.Nodes.off c.append-driven.new.nodes in
+    subst (λ (x : Result Bool Ended). IfErr x (IsOffAs off)) (sym c.round_end.ensures) (round_off off c.end.result c.append-driven.result c.append-driven.ensures.off)

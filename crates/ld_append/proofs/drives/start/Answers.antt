@@ -6,7 +6,7 @@ use Rattle.ld_rounds.proofs.Going.{stopped_here}
 use Rattle.ld_append.specs.Acting.{MayCrowd}
 use Rattle.ld_append.specs.Appends.{sequencing}
 use Rattle.ld_append.proofs.Appending.{started_on}
-use Rattle.ld_append.proofs.Ending.{start_cause, start_unframed}
+use Rattle.ld_append.proofs.Ending.{start_cause, start_off, start_unframed}
 use Rattle.ld_append.proofs.Keeping.{told_refused}
 use Rattle.ld_append.proofs.drives.start.Goals as goal
 
@@ -28,3 +28,6 @@ returns-clause-started g c none first s far b is unset h =
 
 pub returns-clause-refused : goal.returns-clause-refused
 returns-clause-refused g c = told_refused (λ place. g.G.Register.told c.args.acting.now.register → g.G.Register.damaged c.args.acting.now.register place) (g.G.Register.told c.args.acting.now.register → (k : Contents) × g.G.Register.holds c.args.acting.now.register k) (g.G.Register.faults c.args.acting.now.register) (g.G.Register.faults c.activate.new.self.register) (g.O.Sink.faults c.args.out.now) (g.O.Sink.faults c.tell.new.out) c.in-Ok.heard.end c.in-Ok.ensures.refused c.tell.result c.tell.ensures.cause
+
+pub returns-clause-off : goal.returns-clause-off
+returns-clause-off g c = λ off. start_off (g.O.Sink.faults c.args.out.now) (g.O.Sink.faults c.tell.new.out) c.in-Ok.heard.lines.items c.in-Ok.heard.end off c.tell.result c.in-Ok.ensures.told c.tell.ensures.cause

@@ -1,10 +1,12 @@
-use Rattle.std.proofs.Common.{◌≡◌, ◌⊎◌, ℕ, Bool, refl, ap, sym, ◌∙◌, subst, inl, inr, Ok, Err, None, Some, true, List, [], rules}
+use Rattle.std.proofs.Common.{◌≡◌, ◌⊎◌, ℕ, Bool, Option, IfSome, refl, ap, sym, ◌∙◌, subst, inl, inr, Ok, Err, None, Some, true, List, [], rules}
 use Rattle.std.proofs.lemmas.Result.{err_from_is_err_and}
 use Rattle.ld_ids.specs.Set.{members}
 use Rattle.ld_msg.specs.declared.msg.Msg.{Msg}
 use Rattle.ld_msg.specs.Bounds.{Is64}
 use Rattle.ld_msg.specs.Reader.{is_single}
 use Rattle.ld_msg.specs.Register.{Register as Contents}
+use Rattle.ld_rounds.specs.declared.ended.Ended.{Ended}
+use Rattle.ld_rounds.specs.Ends.{IsSaid}
 use Rattle.ld_rounds.specs.Drives.{Driver, AllTaken, IsBroken, Holds}
 use Rattle.ld_rounds.specs.Taking.{TookReads}
 use Rattle.ld_rounds.proofs.Visiting.{all_there}
@@ -130,3 +132,8 @@ returns-clause-damaged g c = λ place is told.
     let whole = subst (λ y. (g.G.Register.told a.register → (c : Contents) × g.G.Register.holds y c)) (sym c.in-Ok-open.ensures.register) c.in-Ok.ensures.whole in
     absurd (undamaged r.end (g.G.Register.told a.register) (g.G.Register.holds z.register) (g.G.Register.faults z.register) (g.G.Register.faults r.register) place whole
     (λ e h. subst (λ o. (o ≡ Some e) ⊎ IsLookEnd (HeldNone (g.G.Register.holds z.register)) (g.G.Register.faults z.register) (g.G.Register.faults r.register) e) off (c.read.ensures.since.ended e h)) is told)
+
+pub returns-in_err-tell-clause-off : goal.returns-in_err-tell-clause-off
+returns-in_err-tell-clause-off g c =
+    let p = err_from_is_err_and c.from_residual.result c.from_residual.ensures.1 in
+    rw (p.1, p.2) (c.in_err-tell.ensures.off (subst (λ (o : Option Ended). IfSome o (IsSaid c.in-Ok-open.heard.lines.items)) (sym c.in-Ok-open.ensures.goes_on) tt) (g.N.Nodes.off c.args.nodes.now))

@@ -1,13 +1,14 @@
 use Rattle.std.proofs.Common.{◌≡◌, ◌⊎◌, ℕ, refl, sym, ap, ◌∙◌, subst, inl, inr, None, true}
 use Rattle.ld_rounds.specs.declared.ended.Ended.{Ended}
 use Rattle.ld_rounds.specs.Drives.{IsBroken}
+use Rattle.ld_rounds.specs.Endings.{IsOffAs}
 use Rattle.ld_rounds.specs.Reaching.{Begins}
 use Rattle.ld_rounds.proofs.Going.{stopped_here}
 use Rattle.ld_rounds.specs.Refusals.{HeldNone}
 use Rattle.ld_tail.specs.Looking.{IsLookEnd, HasLooked, why_of}
 use Rattle.ld_tail.specs.Tails.{HasNone, EndAt, IsTailed, IsTailEnd, DroveTail, tailing}
 use Rattle.ld_tail.proofs.Looked.{why_is}
-use Rattle.ld_tail.proofs.Tailing.{tail_end, tailed_loud}
+use Rattle.ld_tail.proofs.Tailing.{tail_end, end_off, tailed_loud}
 use Rattle.ld_tail.proofs.tails.tail.Goals as goal
 
 pub returns-in_default-clause-tailed : goal.returns-in_default-clause-tailed
@@ -81,3 +82,17 @@ returns-clause-counts g c =
     let x = c.into_register.result in
     let looked : HasLooked None y.end (g.G.Register.told r) (g.G.Register.told x) (g.G.Register.holds r) (g.G.Register.holds x) (g.G.Register.may_hold r) (g.G.Register.may_hold x) (g.G.Register.faults r) (g.G.Register.faults x) (g.G.Register.identity r) (g.G.Register.identity x) = subst (λ q. HasLooked None y.end (g.G.Register.told r) (g.G.Register.told q) (g.G.Register.holds r) (g.G.Register.holds q) (g.G.Register.may_hold r) (g.G.Register.may_hold q) (g.G.Register.faults r) (g.G.Register.faults q) (g.G.Register.identity r) (g.G.Register.identity q)) (sym c.into_register.ensures) (subst (λ q. HasLooked None y.end (g.G.Register.told q) (g.G.Register.told y.register) (g.G.Register.holds q) (g.G.Register.holds y.register) (g.G.Register.may_hold q) (g.G.Register.may_hold y.register) (g.G.Register.faults q) (g.G.Register.faults y.register) (g.G.Register.identity q) (g.G.Register.identity y.register)) c.new-reading.ensures.register c.drive-driven.ensures.looked) in
     looked.counts
+
+pub returns-clause-off : goal.returns-clause-off
+returns-clause-off g c =
+    let r = c.args.register in
+    let a = c.new-reading.result in
+    let y = c.drive-driven.new.reading in
+    let x = c.into_register.result in
+    let looked : HasLooked None y.end (g.G.Register.told r) (g.G.Register.told x) (g.G.Register.holds r) (g.G.Register.holds x) (g.G.Register.may_hold r) (g.G.Register.may_hold x) (g.G.Register.faults r) (g.G.Register.faults x) (g.G.Register.identity r) (g.G.Register.identity x) = subst (λ q. HasLooked None y.end (g.G.Register.told r) (g.G.Register.told q) (g.G.Register.holds r) (g.G.Register.holds q) (g.G.Register.may_hold r) (g.G.Register.may_hold q) (g.G.Register.faults r) (g.G.Register.faults q) (g.G.Register.identity r) (g.G.Register.identity q)) (sym c.into_register.ensures) (subst (λ q. HasLooked None y.end (g.G.Register.told q) (g.G.Register.told y.register) (g.G.Register.holds q) (g.G.Register.holds y.register) (g.G.Register.may_hold q) (g.G.Register.may_hold y.register) (g.G.Register.faults q) (g.G.Register.faults y.register) (g.G.Register.identity q) (g.G.Register.identity y.register)) c.new-reading.ensures.register c.drive-driven.ensures.looked) in
+    let why = subst (IsLookEnd (λ place. g.G.Register.told r → g.G.Register.damaged r place) (g.G.Register.faults r) (g.G.Register.faults x)) (sym (c.why_of.ensures ∙ ap why_of c.end.ensures))
+    (why_is (HeldNone (g.G.Register.holds r)) (λ place. g.G.Register.told r → g.G.Register.damaged r place) (g.G.Register.faults r) (g.G.Register.faults x) y.end looked.ended
+    (λ place is. subst (λ q. (g.G.Register.told q → g.G.Register.damaged q place)) c.new-reading.ensures.register (c.drive-driven.ensures.damaged place is))) in
+    let off = g.N.Nodes.off c.drive-driven.new.nodes in
+    subst (IsOffAs off) (sym c.end_of-ended.ensures)
+    (end_off (λ place. g.G.Register.told r → g.G.Register.damaged r place) (g.G.Register.faults r) (g.G.Register.faults x) (g.O.Sink.faults c.args.out.now) (g.O.Sink.faults c.drive-driven.new.out) off c.drive-driven.result c.why_of.result why c.drive-driven.ensures.off)
