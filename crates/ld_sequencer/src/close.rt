@@ -64,7 +64,7 @@ pub(crate) fn close<G: Register>(
     ensures held { (c : Contents) → G.holds reg.old c
         → IfOk result (λ tried. (answer_of tried ≡ Fails) ⊎ (IsAnswer first.now c log due.now tried × G.holds reg.new (closes_due c log due.now).register)) }
     ensures failed { IfOk result (λ tried. fault_in tried ≡ Some unclosed.Failed → Rose (G.faults reg.old) (G.faults reg.new)) }
-    ensures full { G.told reg.old → IfOk result (λ tried. fault_in tried ≡ Some unclosed.Full → (c : Contents) × G.holds reg.old c × (is_full c close_length ≡ true)) }
+    ensures full { G.told reg.old → IfOk result (λ tried. fault_in tried ≡ Some unclosed.Full → (c : Contents) × G.holds reg.old c × G.holds reg.new c × (is_full c close_length ≡ true)) }
     ensures steady { IfOk result (λ tried. (fault_in tried ≡ Some unclosed.Failed) ⊎ (G.faults reg.new ≡ G.faults reg.old)) }
     ensures unfailed { OnErr result (G.faults reg.new ≡ G.faults reg.old) }
     ensures bound { IfOk result (λ tried. is_epoch_answer tried ≡ true) }
