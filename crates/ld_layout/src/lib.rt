@@ -14,7 +14,7 @@ pub use layout::{
     switches_keep_payloads,
 };
 pub use listed::{Areas, used};
-pub use segment::{Layout, Segment, base_length};
+pub use segment::{FULL_OPS, LEAST_ROOM, LIMIT, Layout, Segment, base_length};
 
 #[cfg(test)]
 mod tests;

@@ -15,8 +15,15 @@ use ld_ids::NoMemory;
 use ld_op::Plain;
 use std::alloc::Global;
 
-/// The least number of op records in a full segment.
-const FULL_OPS: u64 = 64;
+/// The least number of op records in a full segment. A later segment is full at the number of entries of its Base where that
+/// is greater.
+pub const FULL_OPS: u64 = 64;
+
+/// The least space for records in a later segment, in bytes. The record that began the segment has room even where it is longer.
+pub const LEAST_ROOM: u64 = 131_072;
+
+/// The limit of a journal: no record and no area passes this place of its disk, in bytes.
+pub const LIMIT: u64 = 1 << 40;
 
 /// A later segment: its place, the entries of its Base, the op records behind it, its ending gate, the place behind its
 /// area, the older areas in which payloads of its entries stand, and how many switches there were.
@@ -139,12 +146,6 @@ pub fn base_length(index: &Plain, areas: &Areas) -> u64
         .saturating_add(listed)
         .saturating_add(5)
 }
-
-/// The least space for records in a later segment.
-const LEAST_ROOM: u64 = 131_072;
-
-/// No record and no area passes this place.
-const LIMIT: u64 = 1 << 40;
 
 /// The least place for a segment with a Base and room for a record of so many bytes each, and the place behind its area,
 /// where that isn't past the limit.
