@@ -261,7 +261,7 @@ all_above : (x from : ℕ) (ds : List (ℕ × ℕ)) → x < from → AreEpochs f
 all_above x from [] below are = tt
 all_above x from (d ∷ ds) below are = (sym (nat_cmp_is x d.0 Less (omega (arith, below, are.0))), all_above x (d.0 + 1) ds (omega (arith, below, are.0)) are.4)
 
-epochs_rise : (from : ℕ) (ds : List (ℕ × ℕ)) → AreEpochs from ds → Ordered ds
+pub epochs_rise : (from : ℕ) (ds : List (ℕ × ℕ)) → AreEpochs from ds → Ordered ds
 unfolding IsStrictlySortedBy
 epochs_rise from [] are = tt
 epochs_rise from (d ∷ ds) are = (all_above d.0 (d.0 + 1) ds (omega arith) are.4, epochs_rise (d.0 + 1) ds are.4)

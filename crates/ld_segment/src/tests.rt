@@ -6,7 +6,7 @@ ghost use Rattle.ld_segment.specs.Plans.{IsReady};
 use crate::{Plan, Slot, current, read_later, says, write_op};
 use ld_disk::{Disk, MemDisk, Picture};
 use ld_journal::JournalFault;
-use ld_layout::{Areas, Layout, Segment};
+use ld_layout::{Areas, LIMIT, Layout, Segment};
 use ld_op::{Plain, Version};
 use std::alloc::Global;
 use std::test::Fail;
@@ -20,8 +20,6 @@ const SWITCHED: [u8; 73] = [
     1, 0, 0, 0, 11, 13, 0, 0, 0, 0, 0, 0, 0, 0, 0, 0, // the Base
     1, 0, 0, 0, 2, 2, 0, 0, // the record, and the gate behind it
 ];
-
-const LIMIT: u64 = 1 << 40;
 
 fn slot(open: bool, number: u64) -> Slot {
     Slot {
