@@ -1,6 +1,6 @@
 -- What a map of summaries keeps beside them after a change.
 use Rattle.std.proofs.Common.{◌≡◌, ◌<◌, ◌≤◌, ◌^◌, inl, inr, ℕ, Bool, true, false, cond, List, [], Option, Some, None, is_some, refl, ap, sym, ◌∙◌, subst, arith, eqb}
-use Rattle.std.proofs.lemmas.Bool.{eqb-true, cases_order}
+use Rattle.std.proofs.lemmas.Bool.{cases_order}
 use Rattle.ld_table.specs.Table.{find, put, Ordered}
 use Rattle.ld_table.proofs.Laws.{find-put, put_cases}
 use Rattle.ld_msg.specs.declared.msg.Summary.{Summary}
@@ -18,19 +18,6 @@ no_summaries = record {
   positive = omega arith;
   below = λ k l h. absurd (omega arith);
   absent = refl;
-}
-
-one_epoch : (q k : ℕ) (b o : Bool) → eqb q k ≡ b → k < 2 ^ 32 → (o ≡ true → q < 2 ^ 32) → cond b true o ≡ true → q < 2 ^ 32
-one_epoch q k true o t l h s = let e = eqb-true q k t in omega arith
-one_epoch q k false o t l h s = h s
-
-pub with_place : (k : ℕ) (n m : List (ℕ × Option Summary)) (lowest : ℕ) → k < 2 ^ 32 → filled n ≡ filled m → ((q : ℕ) → has_place q n ≡ cond (eqb q k) true (has_place q m)) → AreSummaries m lowest → AreSummaries n lowest
-with_place k n m lowest l same places i = record {
-  epochs = λ q h. one_epoch q k (eqb q k) (has_place q m) refl l (i.epochs q) (sym (places q) ∙ h);
-  ends = λ e y h. i.ends e y (ap (find e) (sym same) ∙ h);
-  positive = i.positive;
-  below = λ q a b. ap (λ x. is_some (find q x)) same ∙ i.below q a b;
-  absent = ap (find lowest) same ∙ i.absent;
 }
 
 pub epochs_stay : (n m : List (ℕ × Option Summary)) → ((q : ℕ) → has_place q n ≡ has_place q m) → AreEpochs m → AreEpochs n

@@ -1,5 +1,5 @@
 -- What a map with places holds after a change.
-use Rattle.std.proofs.Common.{◌≡◌, ◌<◌, drop, nat_lt, nat_le, ℕ, Bool, true, false, cond, List, [], ◌∷◌, Option, Some, None, refl, ap, sym, ◌∙◌, subst, arith, eqb, nat_cmp, Less, is_some, Result, Ok, Err, OnOk, OnErr}
+use Rattle.std.proofs.Common.{◌≡◌, ◌⊎◌, inl, inr, ◌<◌, drop, nat_lt, nat_le, ℕ, Bool, true, false, cond, List, [], ◌∷◌, Option, Some, None, refl, ap, sym, ◌∙◌, subst, arith, eqb, nat_cmp, Less, is_some, Result, Ok, Err, OnOk, OnErr}
 use Rattle.std.specs.Ordering.{is_eq}
 use Rattle.std.specs.BTreeMap.{is_at, insert_entry}
 use Rattle.std.specs.Map as map
@@ -24,6 +24,10 @@ still false c h = h
 same_both : {A : Type 0} (b : Bool) (x : A) → cond b x x ≡ x
 same_both true x = refl
 same_both false x = refl
+
+one_of : (q k : ℕ) (b o : Bool) → eqb q k ≡ b → cond b true o ≡ true → (q ≡ k) ⊎ (o ≡ true)
+one_of q k true o e h = inl (eqb-true q k e)
+one_of q k false o e h = inr h
 
 module _ {X : Type 0} where
   abbrev pub flat : Option (Option X) → Option X
@@ -205,6 +209,9 @@ module _ {X : Type 0} where
 
   pub places_stay : (k : ℕ) (n s : List (ℕ × Option X)) → ((q : ℕ) → has_place q n ≡ cond (eqb q k) true (has_place q s)) → (q : ℕ) → has_place q s ≡ true → has_place q n ≡ true
   places_stay k n s h q t = h q ∙ still (eqb q k) (has_place q s) t
+
+  pub none_besides : (k : ℕ) (n s : List (ℕ × Option X)) → ((q : ℕ) → has_place q n ≡ cond (eqb q k) true (has_place q s)) → (q : ℕ) → has_place q n ≡ true → (q ≡ k) ⊎ (has_place q s ≡ true)
+  none_besides k n s h q t = one_of q k (eqb q k) (has_place q s) refl (sym (h q) ∙ t)
 
   taken : (b : Bool) (o : Option (Option X)) → flat (cond b None o) ≡ cond b None (flat o)
   taken true o = refl

@@ -4,6 +4,7 @@ ghost use Rattle.ld_table.specs.Table.{put, take_out};
 ghost use Rattle.ld_op.specs.Plain.{lng_in, raised_lng};
 ghost use Rattle.ld_op.specs.Places.{filled, has_place};
 
+use crate::room::reserve;
 use ld_ids::NoMemory;
 use std::alloc::Global;
 use std::collections::BTreeMap;
@@ -56,12 +57,7 @@ impl KnownGood {
         ensures same { filled self.new ≡ filled self.old }
         ensures place { OnOk result (has_place epoch self.new ≡ true) }
     {
-        let _ = self.map.len();
-        if self.map.contains_key(&epoch) {
-            return Ok(());
-        }
-        self.map.insert(epoch, None)?;
-        Ok(())
+        reserve(&mut self.map, epoch)
     }
 
     /// Keeps this place of the epoch, which has one or a place for one.

@@ -23,6 +23,7 @@ mod plain;
 mod pointed;
 mod pointers;
 mod record;
+mod room;
 mod summaries;
 #[cfg(test)]
 mod tests;

@@ -6,6 +6,7 @@ ghost use Rattle.ld_op.specs.Places.{filled, has_place};
 ghost use Rattle.ld_op.specs.Closed.{AreClean, AreEpochs};
 ghost use Rattle.ld_op.specs.Ticks.{gap_from};
 
+use crate::room::reserve;
 use ld_ids::NoMemory;
 use ld_msg::Summary;
 use std::alloc::Global;
@@ -99,12 +100,7 @@ impl SummaryMap {
         ensures same { filled self.new ≡ filled self.old }
         ensures place { OnOk result (has_place epoch self.new ≡ true) }
     {
-        let _ = self.map.len();
-        if self.map.contains_key(&epoch) {
-            return Ok(());
-        }
-        self.map.insert(epoch, None)?;
-        Ok(())
+        reserve(&mut self.map, epoch)
     }
 
     /// Puts the summary under its epoch, which has a summary or a place, and raises the lowest epoch without one.
