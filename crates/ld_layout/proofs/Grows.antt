@@ -1,5 +1,5 @@
 -- A record's payloads stand in its segment's area, and the areas of before stay.
-use Rattle.std.proofs.Common.{◌≡◌, ◌≢◌, inl, inr, refl, ⊎_elim, ℕ, ◌+◌, ◌-◌, ◌≤◌, ◌<◌, List, [], ◌∷◌, length, Option, None, Some, Bool, true, false, sym, ap, subst, ◌∙◌, arith, if◌then◌else◌}
+use Rattle.std.proofs.Common.{◌≡◌, refl, ⊎_elim, ℕ, ◌+◌, ◌-◌, ◌≤◌, ◌<◌, List, [], ◌∷◌, Option, None, Some, true, sym, ap, subst, ◌∙◌, arith, if◌then◌else◌}
 use Rattle.ld_table.specs.Table.{find, put}
 use Rattle.ld_table.proofs.Laws.{put_cases, find-put_same, find-put_other, find-empty}
 use Rattle.ld_msg.specs.Register.{record_length}
@@ -7,7 +7,7 @@ use Rattle.ld_op.specs.declared.op.Op.{Op}
 use Rattle.ld_op.specs.Plain.{op_length}
 use Rattle.ld_table.specs.Words.{is_in}
 use Rattle.ld_layout.specs.Areas.{IsInside, IsHeld}
-use Rattle.ld_layout.specs.Layout.{Layout, Segment, closed_areas, gate_of, is_first, later_with, with_record, IsSegment, IfSegment, IsLaid}
+use Rattle.ld_layout.specs.Layout.{Layout, Segment, closed_areas, gate_of, is_first, later_with, with_record, IfSegment, IsLaid}
 
 -- the place behind the ending gate, once a record stands there
 abbrev grown : Layout → ℕ → Option Segment → List (ℕ × ℕ)

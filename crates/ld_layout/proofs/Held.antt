@@ -1,16 +1,16 @@
 -- A Base's areas hold each payload that entries point to.
-use Rattle.std.proofs.Common.{◌≡◌, ◌≢◌, ◌⊎◌, inl, inr, refl, ⊎_elim, ℕ, ◌+◌, ◌-◌, ◌≤◌, ◌<◌, cond, nat_le, nat_lt, nat_cmp, ◌&&◌, ◌||◌, ◌==◌, List, [], ◌∷◌, Option, None, Some, Bool, true, false, sym, ap, subst, ◌∙◌, arith}
+use Rattle.std.proofs.Common.{◌≡◌, ◌≢◌, refl, ⊎_elim, ℕ, ◌+◌, ◌≤◌, ◌<◌, cond, nat_le, nat_lt, nat_cmp, ◌&&◌, ◌==◌, List, [], ◌∷◌, None, Some, Bool, true, false, sym, ap, ◌∙◌, arith}
 use Rattle.std.proofs.lemmas.Bool.{or_left, or_right, cases_eq}
 use Rattle.std.proofs.lemmas.Bool.Decides.{nat_tests}
 use Rattle.std.specs.BTreeMap.{is_at}
-use Rattle.ld_table.specs.Table.{find, put, keep, Ordered}
+use Rattle.ld_table.specs.Table.{find, Ordered}
 use Rattle.ld_table.specs.Words.{any_of, is_in}
-use Rattle.ld_table.proofs.Laws.{kept, same_key, find-keep, find-put_same, find-put_other}
+use Rattle.ld_table.proofs.Laws.{kept, same_key, find-keep, find-put_other}
 use Rattle.ld_msg.specs.declared.msg.What.TheVariants.{Rec}
 use Rattle.ld_msg.specs.declared.msg.Entry.{Entry}
 use Rattle.ld_op.specs.Plain.{Plain, Log}
-use Rattle.ld_layout.specs.Areas.{is_inside, least_place, IsApart, IsHeld}
-use Rattle.ld_layout.specs.Layout.{Layout, Segment, used, points_into, holds_payload, closed_areas, live_areas, switched_to, IsLaid, AreHeld}
+use Rattle.ld_layout.specs.Areas.{is_inside, least_place, IsHeld}
+use Rattle.ld_layout.specs.Layout.{Layout, used, points_into, holds_payload, closed_areas, live_areas, switched_to, IsLaid, AreHeld}
 use Rattle.ld_layout.proofs.Free.{is_free}
 use Rattle.ld_layout.proofs.Live.{free_of_each, rise_of}
 use Rattle.ld_layout.proofs.Switches.{holds, used_is, closed_ordered, closed_shrunk, size, behind}

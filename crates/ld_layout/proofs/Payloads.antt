@@ -2,7 +2,6 @@
 use Rattle.std.proofs.Common.{◌≡◌, ◌⊎◌, inl, inr, refl, ⊎_elim, ℕ, zero, suc, ◌+◌, max, nat_lt, nat_cmp, ◌≤◌, ◌<◌, List, [], ◌∷◌, length, Option, None, Some, Bool, true, false, ◌||◌, ◌==◌, cond, sym, ap, subst, ◌∙◌, arith}
 use Rattle.std.specs.Option.{unwrap_or}
 use Rattle.std.specs.BTreeMap.{is_at}
-use Rattle.std.proofs.lemmas.Bool.{cases_Bool}
 use Rattle.std.proofs.lemmas.Bool.Decides.{nat_tests}
 use Rattle.ld_table.specs.Table.{find, put, keep, keep_keys}
 use Rattle.ld_table.specs.Words.{is_in, numbers_from}
@@ -10,14 +9,13 @@ use Rattle.ld_table.proofs.Laws.{kept, put_cases, find-empty, find-keep, find-ke
 use Rattle.ld_msg.specs.declared.msg.What.{What}
 use Rattle.ld_msg.specs.declared.msg.What.TheVariants.{Rec, Hole, Bridge, Plug, Withheld}
 use Rattle.ld_msg.specs.declared.msg.Entry.{Entry}
-use Rattle.ld_msg.specs.Register.{record_length}
 use Rattle.ld_op.specs.declared.op.Op.{Op}
 use Rattle.ld_op.specs.declared.op.Op.TheVariants as ops
 use Rattle.ld_op.specs.Plain.{Plain, Log, empty_log, log_of, with_log, apply, accept_entry, refill_entries, survives_bridge, survives_clean, accepted, sealed_by, cleaned, trimmed_to, refilled_with, refilled, lost_log, lost_logs, op_length, entry_length, entries_length, what_length}
 use Rattle.ld_op.specs.Cells.{placed, placed_what, placed_entry, placed_entries}
 use Rattle.ld_layout.specs.Areas.{IsHeld}
 use Rattle.ld_layout.specs.Layout.{Layout, closed_areas, gate_of, with_record, IsLaid, AreHeld}
-use Rattle.ld_layout.proofs.Grows.{AreOfRecord, record_keeps, record_holds}
+use Rattle.ld_layout.proofs.Grows.{record_keeps, record_holds}
 
 -- ---- places in a row ----
 

@@ -1,6 +1,5 @@
 -- How a journal's segments lie on their disk: which is full, where the next one lies, and which writing calls that takes.
 use Rattle.std.specs.Prelude.{◌≡◌, ◌<◌, ◌≤◌, ℕ, ◌+◌, ◌-◌, ◌*◌, ◌^◌, max, List, [], ◌∷◌, length, filter, Option, Some, None, Bool, true, false, ◌&&◌, ◌||◌, nat_lt, nat_le, if◌then◌else◌}
-use Rattle.std.specs.Option.{unwrap_or}
 use Rattle.ld_table.specs.Table.{find, put, Ordered}
 use Rattle.ld_table.specs.Words.{any_of}
 use Rattle.ld_msg.specs.declared.msg.What.{What}

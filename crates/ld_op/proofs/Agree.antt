@@ -1,5 +1,5 @@
 -- An index reads the same where the bytes under it are.
-use Rattle.std.proofs.Common.{◌≡◌, ⊎_elim, ℕ, List, [], ◌∷◌, map, Some, Bool, true, ◌||◌, ◌==◌, refl, sym, ap, subst, ◌∙◌, arith, max, nat_lt}
+use Rattle.std.proofs.Common.{◌≡◌, ℕ, List, [], ◌∷◌, map, Some, true, ◌==◌, refl, ap, ◌∙◌, arith}
 use Rattle.std.specs.List.{AllByRecursion}
 use Rattle.std.proofs.lemmas.Bool.{or_left, or_right}
 use Rattle.std.proofs.lemmas.Bool.Decides.{nat_tests}
@@ -8,9 +8,8 @@ use Rattle.ld_table.specs.Words.{is_in}
 use Rattle.ld_table.proofs.Order.{found}
 use Rattle.ld_msg.specs.declared.msg.What.{What}
 use Rattle.ld_msg.specs.declared.msg.What.TheVariants.{Rec, Hole, Bridge, Plug, Withheld}
-use Rattle.ld_msg.specs.declared.msg.Entry.{Entry}
 use Rattle.ld_op.specs.declared.op.Op.{Op}
-use Rattle.ld_op.specs.Plain.{Plain, Log, apply}
+use Rattle.ld_op.specs.Plain.{Plain, apply}
 use Rattle.ld_op.specs.Cells.{each_what, each_entry, each_log, each_plain, each_op, byte_at, read_plain, placed, IsOrdered, AgreeOn}
 use Rattle.ld_op.proofs.Cells.{apply_same}
 

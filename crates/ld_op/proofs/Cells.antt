@@ -1,7 +1,7 @@
 -- What ops do with payloads is the same for bytes and for places.
-use Rattle.std.proofs.Common.{◌≡◌, ℕ, ◌+◌, List, [], ◌∷◌, map, length, filter, Option, None, Some, Bool, true, false, cond, nat_le, nat_lt, ◌&&◌, not, refl, sym, ap, subst, ◌∙◌, arith, option_map}
+use Rattle.std.proofs.Common.{◌≡◌, ℕ, List, [], ◌∷◌, map, filter, Option, None, Some, Bool, true, false, cond, nat_lt, refl, sym, ap, ◌∙◌, option_map}
 use Rattle.std.specs.Option.{unwrap_or}
-use Rattle.ld_table.specs.Table.{find, put, keep, keep_keys, passes, map_values}
+use Rattle.ld_table.specs.Table.{find, put, keep, passes, map_values}
 use Rattle.ld_table.proofs.Laws.{map_values-put, find-map_values, map_values-keep_keys}
 use Rattle.ld_msg.specs.declared.msg.What.{What}
 use Rattle.ld_msg.specs.declared.msg.What.TheVariants.{Rec, Hole, Bridge, Plug, Withheld}
@@ -9,7 +9,7 @@ use Rattle.ld_msg.specs.declared.msg.Entry.{Entry}
 use Rattle.ld_msg.specs.declared.msg.Summary.{Summary}
 use Rattle.ld_op.specs.declared.op.Op.{Op}
 use Rattle.ld_op.specs.declared.op.Op.TheVariants as ops
-use Rattle.ld_op.specs.Plain.{Plain, Log, empty_log, log_of, with_log, apply, accept_entry, accepted, sealed_by, trimmed_to, cleaned, refill_entries, refilled_with, refilled, lost_log, lost_logs, survives_bridge, survives_clean, what_length, entries_length, op_length}
+use Rattle.ld_op.specs.Plain.{Plain, Log, empty_log, log_of, with_log, apply, accept_entry, accepted, sealed_by, trimmed_to, cleaned, refill_entries, refilled_with, refilled, lost_log, lost_logs, survives_bridge, survives_clean}
 use Rattle.ld_op.specs.Cells.{each_what, each_entry, each_log, each_plain, each_op}
 
 -- ---- tables ----

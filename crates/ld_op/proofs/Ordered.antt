@@ -5,7 +5,7 @@ use Rattle.std.specs.List.Sorted.{IsStrictlySortedBy}
 use Rattle.std.specs.BTreeMap.{is_at}
 use Rattle.std.specs.Map as map
 use Rattle.ld_table.specs.Table.{find, put, keep, keep_keys, Ordered}
-use Rattle.ld_table.proofs.Laws.{put_cases, find-empty}
+use Rattle.ld_table.proofs.Laws.{put_cases}
 use Rattle.ld_table.proofs.Order.{Ordered-put, Ordered-keep, keep_is}
 use Rattle.ld_msg.specs.declared.msg.What.{What}
 use Rattle.ld_msg.specs.declared.msg.What.TheVariants.{Rec, Hole, Bridge, Plug, Withheld}

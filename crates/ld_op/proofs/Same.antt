@@ -1,10 +1,9 @@
 -- What answers do with payloads is the same for bytes and for places.
-use Rattle.std.proofs.Common.{◌≡◌, ℕ, zero, suc, ◌+◌, ◌-◌, List, [], ◌∷◌, ◌++◌, map, length, take, filter, flat_map, Option, None, Some, is_none, Bool, true, false, cond, nat_le, nat_lt, ◌&&◌, not, ◌==◌, refl, sym, ap, subst, ◌∙◌, arith, option_map}
-use Rattle.std.specs.Option.{unwrap_or}
+use Rattle.std.proofs.Common.{◌≡◌, ℕ, zero, suc, ◌-◌, List, [], ◌∷◌, ◌++◌, map, length, take, filter, flat_map, Option, None, Some, is_none, Bool, true, false, cond, nat_le, nat_lt, ◌&&◌, not, refl, sym, ap, ◌∙◌, option_map}
 use Rattle.ld_table.specs.Table.{find, map_values}
 use Rattle.ld_table.specs.Words.{values}
 use Rattle.ld_table.proofs.Laws.{find-map_values}
-use Rattle.ld_lsn.specs.Number.{epoch_of, esn_of, numbered, home_epoch, home_esn, last_esn}
+use Rattle.ld_lsn.specs.Number.{epoch_of, numbered, home_epoch, home_esn}
 use Rattle.ld_msg.specs.declared.msg.What.{What}
 use Rattle.ld_msg.specs.declared.msg.What.TheVariants.{Rec, Hole, Bridge, Plug, Withheld}
 use Rattle.ld_msg.specs.declared.msg.Entry.{Entry}
@@ -12,10 +11,9 @@ use Rattle.ld_msg.specs.declared.msg.Summary.{Summary}
 use Rattle.ld_msg.specs.declared.msg.Body.{Body}
 use Rattle.ld_msg.specs.declared.msg.Body.TheVariants as bodies
 use Rattle.ld_msg.specs.Digest.{is_bridge}
-use Rattle.ld_op.specs.declared.op.Op.{Op}
 use Rattle.ld_op.specs.Plain.{Log, summary_at, is_lost, end_here, lng_at}
-use Rattle.ld_op.specs.Answers.{digest_decision, Decision, Lost, Trimmed, Sealed, Same, Take, store_decision, is_same, or_clean, entries_within, readable, page_limit, last_number, page_upto, read_page, digest_page, open_answer, clean_page, lost_or, epoch_answer, read_answer, lets_read, on_clean, on_trim, withheld, withheld_what, withheld_in, one_answer, is_node}
-use Rattle.ld_op.specs.Ticks.{Ticked, Nothing, lost_tick, refill_tick, lowest_unclean, tick_with, on_tick, missing, missing_of, numbers_of, is_missing, is_below_end, lacking, as_closed, refill_op, page_op, on_page}
+use Rattle.ld_op.specs.Answers.{digest_decision, Lost, Trimmed, Sealed, Same, Take, store_decision, is_same, or_clean, entries_within, readable, page_limit, last_number, page_upto, read_page, digest_page, open_answer, clean_page, epoch_answer, read_answer, lets_read, on_clean, on_trim, withheld, withheld_what, withheld_in, one_answer, is_node}
+use Rattle.ld_op.specs.Ticks.{Nothing, refill_tick, lowest_unclean, tick_with, on_tick, missing, missing_of, numbers_of, is_missing, is_below_end, lacking, as_closed, refill_op, page_op, on_page}
 use Rattle.ld_op.specs.Cells.{each_what, each_entry, each_log, each_body}
 use Rattle.ld_msg.specs.Choice.{sender}
 

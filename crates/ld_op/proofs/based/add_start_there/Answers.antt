@@ -1,4 +1,4 @@
-use Rattle.std.proofs.Common.{ap, ◌∙◌, sym}
+use Rattle.std.proofs.Common.{ap, ◌∙◌}
 use Rattle.ld_op.specs.Indexed.{start_of}
 use Rattle.ld_op.proofs.Tables.{written, nothing_written, start_one, start_none}
 use Rattle.ld_op.proofs.based.add_start_there.Goals as goal

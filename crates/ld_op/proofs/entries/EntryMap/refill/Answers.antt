@@ -1,11 +1,10 @@
-use Rattle.std.proofs.Common.{◌≡◌, ◌<◌, ◌≤◌, ◌+◌, ◌^◌, ◌∙◌, ℕ, List, length, get_or, ap, sym, subst, true, take, ◌++◌, ◌∷◌, [], arith}
+use Rattle.std.proofs.Common.{◌≡◌, ◌<◌, ◌≤◌, ◌+◌, ◌∙◌, ℕ, List, length, get_or, ap, sym, take, ◌++◌, ◌∷◌, [], arith}
 use Rattle.std.proofs.lemmas.List.{take_more}
 use Rattle.ld_table.specs.Table.{put}
 use Rattle.ld_msg.specs.declared.msg.Entry.{Entry}
 use Rattle.ld_op.specs.Places.{filled, has_place}
 use Rattle.ld_op.specs.Plain.{refill_entries, entry_length, entries_length}
 use Rattle.ld_op.specs.Cells.{placed_entry, placed_entries}
-use Rattle.ld_op.specs.Room.{have_places}
 use Rattle.ld_op.proofs.HavePlaces.{have_places_stay, refill-append}
 use Rattle.ld_op.proofs.CellsMore.{placed_push, long_push, one_fits, has_at}
 use Rattle.ld_op.proofs.entries.EntryMap.refill.Goals as goal

@@ -1,4 +1,4 @@
-use Rattle.std.proofs.Common.{◌≡◌, ◌<◌, ◌+◌, ◌^◌, true, take}
+use Rattle.std.proofs.Common.{◌≡◌, ◌+◌, true, take}
 use Rattle.ld_op.specs.Places.{filled}
 use Rattle.ld_op.specs.Plain.{refill_entries, entries_length}
 use Rattle.ld_op.specs.Cells.{placed_entries}
