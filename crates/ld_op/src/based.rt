@@ -1,5 +1,5 @@
 // The bytes of an index: what a node's plain state takes, with the place and the length of each payload.
-ghost use Rattle.std.specs.Prelude.{◌≡◌, ◌≤◌, ◌<◌, ◌+◌, ◌*◌, ◌-◌, ◌^◌, ◌++◌, ◌∷◌, [], ℕ, List, Bool, length, min, OnOk, IfOk};
+ghost use Rattle.std.specs.Prelude.{◌≡◌, ◌+◌, ◌++◌, ◌∷◌, [], ℕ, List, Bool, length, OnOk};
 ghost use Rattle.ld_fields.specs.Fields.{Got};
 ghost use Rattle.ld_op.specs.Plain.{Plain as State};
 ghost use Rattle.byteorder.specs.Endian.{big_bytes};
@@ -8,9 +8,7 @@ ghost use Rattle.ld_fields.specs.Items.{summary_bytes, flag};
 ghost use Rattle.ld_op.specs.Places.{filled};
 ghost use Rattle.ld_op.specs.Pointed.{seen_what};
 ghost use Rattle.ld_op.specs.Room.{there_of};
-ghost use Rattle.ld_op.specs.Taken.{log_length, entry_length, entries_there};
-ghost use Rattle.ld_op.specs.Within.{places_within, what_within, entries_within, logs_within, entry_within, log_within};
-ghost use Rattle.ld_op.specs.Indexed.{entry_count, first_of, start_of, entry_starts, payload_starts, first_place, what_based, entry_based, entries_bytes_based, summaries_based, lngs_based, state_based, tables_based, logs_bytes_based, index_bytes, read_index, IsBased};
+ghost use Rattle.ld_op.specs.Indexed.{first_place, what_based, entry_based, entries_bytes_based, summaries_based, lngs_based, state_based, tables_based, logs_bytes_based, index_bytes, read_index, IsBased};
 
 use crate::Plain;
 use crate::entries::EntryMap;
@@ -18,12 +16,12 @@ use crate::known_good::KnownGood;
 use crate::log::LogState;
 use crate::logs::LogMap;
 use crate::pointed::{Held, Place, Pointed};
+use crate::sizes::{count_entries, count_lngs, count_logs, count_summaries};
 use crate::summaries::SummaryMap;
 use ld_fields::{put_flag, put_number, put_summary, put_u8, put_u16, put_u32};
 use ld_ids::NoMemory;
 use ld_lsn::Lsn;
 use ld_msg::Summary;
-use std::alloc::Global;
 use std::collections::BTreeMap;
 
 impl Plain {
@@ -35,274 +33,12 @@ impl Plain {
         put_u32(out, self.generation())?;
         put_logs(out, self.logs())
     }
-
-    /// How many bytes those are, or the greatest number where they are more.
-    #[tactic(auto, unfolding(crate::specs::Indexed::index_bytes))]
-    pub fn index_length(&self) -> u64
-        ensures { result ≡ min (length (index_bytes self.now.state)) (2 ^ 64 - 1) }
-    {
-        logs_length(self.logs().all()).saturating_add(6)
-    }
-
-    /// How many entries all logs have, or the greatest number where there are more.
-    pub fn entry_count(&self) -> u64
-        ensures { result ≡ min (entry_count self.now.state.logs) (2 ^ 64 - 1) }
-    {
-        count_all_entries(self.logs().all())
-    }
-
-    /// Where the payloads begin that have bytes.
-    pub fn payload_starts(&self, alloc: Global) -> Result<Vec<u64>, NoMemory>
-        ensures { IfOk result (λ starts. starts.items ≡ payload_starts self.now.state.logs) }
-    {
-        let mut starts = Vec::new(alloc);
-        add_all_starts(&mut starts, self.logs().all())?;
-        Ok(starts)
-    }
-
-    /// Whether each payload ends at a place or before it. It takes time in the number of entries.
-    pub fn lies_within(&self, end: u64) -> bool
-        ensures { result ≡ logs_within end self.now.state.logs }
-    {
-        logs_lie_within(self.logs().all(), end)
-    }
-}
-
-/// Whether each payload of the logs that are there ends at a place or before it.
-fn logs_lie_within(places: &BTreeMap<u32, LogState>, end: u64) -> bool
-    ensures { result ≡ logs_within end (there_of places.now.entries) }
-{
-    'logs: for (_, state) in places {
-        if !log_lies_within(state, end) {
-            return false;
-        }
-    }
-    true
-}
-
-/// Whether each payload of a log does, where it is there.
-fn log_lies_within(state: &LogState, end: u64) -> bool
-    ensures { result ≡ log_within end state.now }
-{
-    if state.is_there() {
-        entries_lie_within(state.entries().places(), end)
-    } else {
-        true
-    }
-}
-
-/// Whether each payload of the entries does.
-fn entries_lie_within(places: &BTreeMap<u64, Option<Pointed>>, end: u64) -> bool
-    ensures { result ≡ entries_within end (filled places.now.entries) }
-{
-    'entries: for (_, place) in places {
-        if !entry_lies_within(place, end) {
-            return false;
-        }
-    }
-    true
-}
-
-/// Whether the payload of an entry does, where there is one.
-fn entry_lies_within(place: &Option<Pointed>, end: u64) -> bool
-    ensures { result ≡ entry_within end place.now }
-{
-    match place {
-        Some(entry) => held_lies_within(entry.held(), end),
-        None => true,
-    }
-}
-
-/// Whether the payload of what stands under a number does.
-fn held_lies_within(held: Held, end: u64) -> bool
-    ensures { result ≡ what_within end (seen_what held) }
-{
-    match held {
-        Held::Rec(place) => place_lies_within(place, end),
-        Held::Hole => true,
-        Held::Bridge => true,
-        Held::Plug => true,
-        Held::Withheld => true,
-    }
-}
-
-/// Whether a payload does. One without bytes stands nowhere.
-fn place_lies_within(place: Place, end: u64) -> bool
-    ensures { result ≡ places_within end (numbers_from place.at place.len) }
-{
-    place.len == 0 || (place.at <= end && place.len <= end - place.at)
-}
-
-/// Lists where the payloads of the logs that are there begin.
-fn add_all_starts(out: &mut Vec<u64>, places: &BTreeMap<u32, LogState>) -> Result<(), NoMemory>
-    ensures { OnOk result (out.new.items ≡ out.old.items ++ payload_starts (there_of places.now.entries)) }
-{
-    'logs: for (log, state) in places {
-        add_starts_there(out, *log, state)?;
-    }
-    Ok(())
-}
-
-/// Lists where a log's payloads begin, where it is there.
-fn add_starts_there(out: &mut Vec<u64>, log: u32, state: &LogState) -> Result<(), NoMemory>
-    ensures { OnOk result (out.new.items ≡ out.old.items ++ payload_starts (there_of ((log, state.now) ∷ []))) }
-{
-    if state.is_there() {
-        add_starts(out, state)
-    } else {
-        Ok(())
-    }
-}
-
-/// Lists where a log's payloads begin.
-fn add_starts(out: &mut Vec<u64>, state: &LogState) -> Result<(), NoMemory>
-    ensures { OnOk result (out.new.items ≡ out.old.items ++ entry_starts state.now.log.entries) }
-{
-    add_each_start(out, state.entries().places())
-}
-
-/// Lists where the payloads of the entries begin.
-fn add_each_start(
-    out: &mut Vec<u64>,
-    places: &BTreeMap<u64, Option<Pointed>>,
-) -> Result<(), NoMemory>
-    ensures { OnOk result (out.new.items ≡ out.old.items ++ entry_starts (filled places.now.entries)) }
-{
-    'entries: for (number, place) in places {
-        add_start_there(out, *number, place)?;
-    }
-    Ok(())
-}
-
-/// Lists where an entry's payload begins, where there is one.
-fn add_start_there(out: &mut Vec<u64>, number: u64, place: &Option<Pointed>) -> Result<(), NoMemory>
-    ensures { OnOk result (out.new.items ≡ out.old.items ++ entry_starts (filled ((number, place.now) ∷ []))) }
-{
-    match place {
-        Some(entry) => add_start(out, entry.held()),
-        None => Ok(()),
-    }
-}
-
-/// Lists where a payload begins that has bytes.
-fn add_start(out: &mut Vec<u64>, held: Held) -> Result<(), NoMemory>
-    ensures { OnOk result (out.new.items ≡ out.old.items ++ start_of (seen_what held)) }
-{
-    match held {
-        Held::Rec(place) => add_place(out, place),
-        Held::Hole => Ok(()),
-        Held::Bridge => Ok(()),
-        Held::Plug => Ok(()),
-        Held::Withheld => Ok(()),
-    }
-}
-
-/// Lists the place of a payload that has bytes.
-fn add_place(out: &mut Vec<u64>, place: Place) -> Result<(), NoMemory>
-    ensures { OnOk result (out.new.items ≡ out.old.items ++ first_of (numbers_from place.at place.len)) }
-{
-    if place.len == 0 {
-        return Ok(());
-    }
-    out.push(place.at)?;
-    Ok(())
 }
 
 /// The bytes of an index are read as that index, whatever stands before and behind them.
 pub fn bases_are_read()
     ensures { (p : State) (older : Bool) (front rest : List ℕ) → IsBased older p → read_index (front ++ (index_bytes p ++ rest)) older (length front) ≡ Got p (length front + length (index_bytes p)) }
 {}
-
-/// How many bytes the logs that are there take.
-fn logs_length(places: &BTreeMap<u32, LogState>) -> u64
-    ensures { result ≡ min (length (logs_bytes_based (there_of places.now.entries))) (2 ^ 64 - 1) }
-{
-    let mut sum: u64 = 0;
-    'logs: for (_, state) in places {
-        sum = sum.saturating_add(log_length(state));
-    }
-    sum
-}
-
-/// How many bytes a log takes, where it is there.
-fn log_length(state: &LogState) -> u64
-    ensures { result ≡ min (log_length state.now) (2 ^ 64 - 1) }
-{
-    if state.is_there() {
-        tables_length(state).saturating_add(21)
-    } else {
-        0
-    }
-}
-
-/// How many bytes a log's summaries, last known good places and entries take.
-fn tables_length(state: &LogState) -> u64
-    ensures { result ≡ min (length (tables_based state.now.log)) (2 ^ 64 - 1) }
-{
-    let summaries = count_summaries(state.summaries().places()).saturating_mul(25);
-    let lngs = count_lngs(state.lngs().places()).saturating_mul(8);
-    let entries = entries_length(state.entries().places());
-    summaries
-        .saturating_add(lngs)
-        .saturating_add(entries)
-        .saturating_add(12)
-}
-
-/// How many bytes the entries take.
-fn entries_length(places: &BTreeMap<u64, Option<Pointed>>) -> u64
-    ensures { result ≡ min (length (entries_bytes_based (filled places.now.entries))) (2 ^ 64 - 1) }
-{
-    let mut sum: u64 = 0;
-    'entries: for (_, place) in places {
-        sum = sum.saturating_add(entry_length(place));
-    }
-    sum
-}
-
-/// How many bytes an entry takes, where there is one.
-fn entry_length(place: &Option<Pointed>) -> u64
-    ensures { result ≡ entry_length place.now }
-{
-    match place {
-        Some(entry) => held_length(entry.held()),
-        None => 0,
-    }
-}
-
-/// How many bytes an entry takes that holds this.
-fn held_length(held: Held) -> u64
-    ensures { result ≡ 12 + length (what_based (seen_what held)) }
-{
-    match held {
-        Held::Rec(_) => 23,
-        Held::Hole => 13,
-        Held::Bridge => 13,
-        Held::Plug => 13,
-        Held::Withheld => 13,
-    }
-}
-
-/// How many entries the logs that are there have.
-fn count_all_entries(places: &BTreeMap<u32, LogState>) -> u64
-    ensures { result ≡ min (entry_count (there_of places.now.entries)) (2 ^ 64 - 1) }
-{
-    let mut sum: u64 = 0;
-    'logs: for (_, state) in places {
-        sum = sum.saturating_add(entries_there(state));
-    }
-    sum
-}
-
-/// How many entries a log has, where it is there.
-fn entries_there(state: &LogState) -> u64
-    ensures { result ≡ entries_there state.now }
-{
-    if state.is_there() {
-        count_entries(state.entries().places())
-    } else {
-        0
-    }
-}
 
 /// Writes a count of two bytes, and the logs that are there.
 fn put_logs(out: &mut Vec<u8>, logs: &LogMap) -> Result<(), NoMemory>
@@ -325,18 +61,6 @@ fn put_count(out: &mut Vec<u8>, count: u64) -> Result<(), NoMemory>
     ensures { OnOk result (out.new.items ≡ out.old.items ++ big_bytes 4 count) }
 {
     put_u32(out, (count % 0x1_0000_0000) as u32)
-}
-
-/// How many logs are there.
-fn count_logs(places: &BTreeMap<u32, LogState>) -> u64
-    ensures { result ≡ length (there_of places.now.entries) }
-{
-    let _ = places.len();
-    let mut count: u64 = 0;
-    'logs: for (_, state) in places {
-        count += u64::from(state.is_there());
-    }
-    count
 }
 
 /// Writes the logs that are there.
@@ -404,18 +128,6 @@ fn put_summaries(out: &mut Vec<u8>, summaries: &SummaryMap) -> Result<(), NoMemo
     put_each_summary(out, places)
 }
 
-/// How many summaries there are.
-fn count_summaries(places: &BTreeMap<u32, Option<Summary>>) -> u64
-    ensures { result ≡ length (filled places.now.entries) }
-{
-    let _ = places.len();
-    let mut count: u64 = 0;
-    'summaries: for (_, place) in places {
-        count += u64::from(place.is_some());
-    }
-    count
-}
-
 /// Writes the summaries.
 fn put_each_summary(
     out: &mut Vec<u8>,
@@ -456,18 +168,6 @@ fn put_lngs(out: &mut Vec<u8>, lngs: &KnownGood) -> Result<(), NoMemory>
     put_each_lng(out, places)
 }
 
-/// How many last known good places there are.
-fn count_lngs(places: &BTreeMap<u32, Option<u32>>) -> u64
-    ensures { result ≡ length (filled places.now.entries) }
-{
-    let _ = places.len();
-    let mut count: u64 = 0;
-    'lngs: for (_, place) in places {
-        count += u64::from(place.is_some());
-    }
-    count
-}
-
 /// Writes the last known good places.
 fn put_each_lng(out: &mut Vec<u8>, places: &BTreeMap<u32, Option<u32>>) -> Result<(), NoMemory>
     ensures { OnOk result (out.new.items ≡ out.old.items ++ lngs_based (filled places.now.entries)) }
@@ -503,18 +203,6 @@ fn put_entries(out: &mut Vec<u8>, entries: &EntryMap) -> Result<(), NoMemory>
     let places = entries.places();
     put_count(out, count_entries(places))?;
     put_each_entry(out, places)
-}
-
-/// How many entries there are.
-fn count_entries(places: &BTreeMap<u64, Option<Pointed>>) -> u64
-    ensures { result ≡ length (filled places.now.entries) }
-{
-    let _ = places.len();
-    let mut count: u64 = 0;
-    'entries: for (_, place) in places {
-        count += u64::from(place.is_some());
-    }
-    count
 }
 
 /// Writes the entries.

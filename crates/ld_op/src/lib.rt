@@ -7,6 +7,7 @@ mod decode;
 mod draft;
 mod draft_message;
 mod encode;
+mod ends;
 mod entries;
 mod fault;
 mod index;
@@ -24,6 +25,7 @@ mod pointed;
 mod pointers;
 mod record;
 mod room;
+mod sizes;
 mod summaries;
 #[cfg(test)]
 mod tests;

@@ -1,0 +1,17 @@
+use Rattle.std.proofs.Common.{◌≡◌, ◌+◌, length, arith, rules}
+use Rattle.std.specs.Map.Iter.{deref_pair}
+use Rattle.ld_op.specs.Places.{filled}
+use Rattle.ld_op.proofs.Tables.{count_on, count_all, filled_most}
+use Rattle.ld_op.proofs.sizes.count_summaries.Goals as goal
+
+next : (c : goal.After-from-count) → length (filled c.summaries.place-iterator) ≡ c.from-count.result + length (filled c.next.new.self)
+next c = count_on (deref_pair (c.in-Some.field-0-0, c.in-Some.place)) c.summaries.place-iterator c.next.new.self c.from-count.result c.in-Some.ensures.steps (search rules)
+
+pub overflow_add-count : goal.overflow_add-count
+overflow_add-count c = let i = c.summaries.invariant in let n = next c in let m = filled_most c.args.places.now.entries in let s = c.len.ensures.small in omega arith
+
+pub summaries-preserved : goal.summaries-preserved
+summaries-preserved c = let i = c.summaries.invariant in let n = next c in omega arith
+
+pub returns : goal.returns
+returns c = count_all c.summaries.place-iterator c.summaries.count _ c.in-None.ensures.steps.0 c.summaries.invariant
