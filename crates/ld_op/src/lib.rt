@@ -18,6 +18,8 @@ mod known_good;
 mod log;
 mod logs;
 mod missing;
+#[cfg(test)]
+mod off_tests;
 mod op;
 mod page;
 mod plain;
