@@ -1,15 +1,12 @@
 // What a register answers and shows whose changes are told to fail.
-use crate::tests::{CHANGES, close, drawn, epoch, make, swap, swaps, told};
+use crate::asking::{CHANGES, close, drawn, epoch, make, new_disk, swap, swaps, told};
 use crate::{FaultyRegister, RegisterFault};
 use ld_disk::MemDisk;
 use std::alloc::Global;
 use std::test::Fail;
 
 fn new_register(alloc: Global) -> Result<FaultyRegister<MemDisk>, RegisterFault> {
-    match MemDisk::new(alloc) {
-        Ok(disk) => Ok(FaultyRegister::new(alloc, disk)),
-        Err(_) => Err(RegisterFault::NoMemory),
-    }
+    Ok(FaultyRegister::new(alloc, new_disk(alloc)?))
 }
 
 #[test]

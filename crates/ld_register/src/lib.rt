@@ -3,6 +3,7 @@
 
 mod borrowed;
 mod change;
+mod checking;
 mod contents;
 mod disk;
 mod fault;
@@ -24,6 +25,10 @@ pub use laws::{
 pub use register::{Drawn, Grant, Register, View};
 
 #[cfg(test)]
+mod asking;
+#[cfg(test)]
 mod faulty_tests;
+#[cfg(test)]
+mod journal_tests;
 #[cfg(test)]
 mod tests;
