@@ -7,10 +7,7 @@ ghost use Rattle.ld_layout.specs.Layout.{switches};
 ghost use Rattle.ld_segment.specs.Lies.{Slots, segment_for, slots_after, slots_with};
 ghost use Rattle.ld_store.specs.Laid.{layout_in, slots_in, placed_in, full_in};
 
-use ld_layout::{Layout, Segment};
-
-/// The least number of op records in a full segment.
-const FULL_OPS: u64 = 64;
+use ld_layout::{FULL_OPS, Layout, Segment};
 
 /// Where its segments lie; the place of the slot behind the head that counts and that of the other one, and whether that
 /// one's gate is open.

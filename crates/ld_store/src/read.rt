@@ -23,16 +23,10 @@ use crate::laid::Laid;
 use crate::replay::{Walk, replay};
 use ld_disk::Disk;
 use ld_journal::read_record;
-use ld_layout::{Areas, Based, Layout, Segment};
+use ld_layout::{Areas, Based, LEAST_ROOM, LIMIT, Layout, Segment};
 use ld_op::{Plain, Version};
 use ld_segment::{Found, Later, read_later};
 use std::alloc::Global;
-
-/// The least space for records in a later segment.
-const LEAST_ROOM: u64 = 131_072;
-
-/// No record and no area passes this place.
-const LIMIT: u64 = 1 << 40;
 
 /// A journal that was read: where its segments lie, its index, and its version.
 #[derive(Drop)]

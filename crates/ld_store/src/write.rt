@@ -16,14 +16,11 @@ ghost use Rattle.ld_store.specs.declared.laid.Laid.{Laid as Lying};
 use crate::StoreFault;
 use crate::laid::Laid;
 use ld_disk::Disk;
-use ld_layout::Segment;
+use ld_layout::{LIMIT, Segment};
 use ld_op::Plain;
 use ld_segment::{Plan, write_op};
 use std::alloc::Global;
 use std::mem;
-
-/// No record and no area passes this place.
-const LIMIT: u64 = 1 << 40;
 
 /// The plan of a record of this body, and the new segment that it needs, where there is one. A Base begins with `kind`.
 fn prepare(
