@@ -40,8 +40,8 @@ module _ (y : Layout) (z : Slots) (o : Op) where
   abbrev n : ℕ
   n = op_length o
 
-  abbrev body : List ℕ
-  body = op_bytes o
+  abbrev said : List ℕ
+  said = op_bytes o
 
   abbrev IsLong : ℕ → Type 0
   IsLong size = (switches y size ≡ true) × (is_past y.index (segment_for y size) ≡ true)
@@ -51,26 +51,26 @@ module _ (y : Layout) (z : Slots) (o : Op) where
   unfolding passes_limit switched_to
   decided full = ap (λ t. passes_in y o (cond t (switched_to y (record_length n) (record_length n)) y).later) full ∙ ap (λ t. t && is_past y.index (segment_for y n)) full
 
-  long : n ≡ length body
+  long : n ≡ length said
   long = sym (record_long (Now o))
 
-  goes_past : passes_limit y o ≡ true → IsPast 13 y z body
+  goes_past : passes_limit y o ≡ true → IsPast 13 y z said
   unfolding passes_limit
   goes_past past = by (switches y n) refl
     where
-      here : (a : Option Segment) → y.later ≡ a → switches y n ≡ false → passes_in y o a ≡ true → journal_limit < planned_end (planned 13 y z body)
+      here : (a : Option Segment) → y.later ≡ a → switches y n ≡ false → passes_in y o a ≡ true → journal_limit < planned_end (planned 13 y z said)
       here None first goes passes =
           let far : journal_limit < y.end + 1 + record_length n = grind (arith, nat_tests) in
-          let same : planned 13 y z body ≡ planned_by 13 y z body (length body) false = ap (planned_by 13 y z body (length body)) (ap (switches y) (sym long) ∙ goes) in
+          let same : planned 13 y z said ≡ planned_by 13 y z said (length said) false = ap (planned_by 13 y z said (length said)) (ap (switches y) (sym long) ∙ goes) in
           omega (arith, far, long, ap planned_end same, ap (gate_in y) first)
       here (Some g) first goes passes = absurd (let none : true ≡ false = sym passes ∙ ap (λ t. t && is_past y.index g) goes in cc none)
 
-      by : (t : Bool) → switches y n ≡ t → IsPast 13 y z body
+      by : (t : Bool) → switches y n ≡ t → IsPast 13 y z said
       by true full = inr (inr (inl (subst IsLong long (full, sym (decided full) ∙ past))))
       by false goes = inr (inr (inr (here y.later refl goes (sym (ap (λ t. passes_in y o (cond t (switched_to y (record_length n) (record_length n)) y).later) goes) ∙ past))))
 
   -- what isn't past the limit passes none
-  pub not_past : (IsPast 13 y z body → ⊥) → passes_limit y o ≡ false
+  pub not_past : (IsPast 13 y z said → ⊥) → passes_limit y o ≡ false
   not_past none = by (passes_limit y o) refl
     where
       by : (t : Bool) → passes_limit y o ≡ t → passes_limit y o ≡ false
@@ -81,20 +81,20 @@ module _ (y : Layout) (z : Slots) (o : Op) where
     pub may_keep : passes_limit y o ≡ false → MayKeep y o
     may_keep within = record { op = op; format = format; fits = within }
 
-    near : planned_end (planned 13 y z body) ≤ journal_limit → (y.end ≤ journal_limit) × (gate_in y y.later ≤ journal_limit)
+    near : planned_end (planned 13 y z said) ≤ journal_limit → (y.end ≤ journal_limit) × (gate_in y y.later ≤ journal_limit)
     near end = by y.later refl sound.laid.segment sound.bounded
       where
-        first : (t : Bool) → y.later ≡ None → planned_end (planned_by 13 y z body (length body) t) ≤ journal_limit → y.end ≤ journal_limit
-        first true e end = omega (arith, end, ap (λ a. end_before (before_by 13 y z (segment_for y (length body)) a)) e)
+        first : (t : Bool) → y.later ≡ None → planned_end (planned_by 13 y z said (length said) t) ≤ journal_limit → y.end ≤ journal_limit
+        first true e end = omega (arith, end, ap (λ a. end_before (before_by 13 y z (segment_for y (length said)) a)) e)
         first false e end = omega (arith, end, ap (gate_in y) e)
 
         by : (a : Option Segment) → y.later ≡ a → IfSegment a → IfBounded y.end a → (y.end ≤ journal_limit) × (gate_in y y.later ≤ journal_limit)
-        by None e segment bounded = let low = first (switches y (length body)) e end in (low, omega (arith, low, ap (gate_in y) e))
+        by None e segment bounded = let low = first (switches y (length said)) e end in (low, omega (arith, low, ap (gate_in y) e))
         by (Some g) e segment bounded =
             let far = head_before y g (subst (λ a. AreLive (live_areas y a)) e sound.laid.live) segment in
             (omega (arith, far, segment.begun, segment.within, bounded.limit), omega (arith, ap (gate_in y) e, segment.within, bounded.limit))
 
-    pub is_full : IsPast 13 y z body → passes_limit y o ≡ true
+    pub is_full : IsPast 13 y z said → passes_limit y o ≡ true
     is_full past = by (passes_limit y o) refl
       where
         none : passes_limit y o ≡ false → ⊥

@@ -1,5 +1,5 @@
 -- What stands behind the records of a segment that were replayed.
-use Rattle.std.proofs.Common.{◌≡◌, inl, inr, ◌<◌, ◌+◌, take, drop, ℕ, List, [], ◌∷◌, ◌++◌, length, Option, Bool, Result, Ok, Err, IfOk, true, false, Some, sym, ◌∙◌, ap, refl, subst, arith, take-append-drop}
+use Rattle.std.proofs.Common.{◌≡◌, inl, inr, ◌<◌, ◌+◌, take, drop, ℕ, List, [], ◌∷◌, ◌++◌, length, Option, Bool, Result, Ok, Err, IfOk, true, false, None, Some, sym, ◌∙◌, ap, refl, subst, arith, take-append-drop}
 use Rattle.std.specs.Result.{IsErrOf}
 use Rattle.std.proofs.lemmas.List.{length-take, length-drop}
 use Rattle.ld_journal.specs.Format.{framed, IsCutShort}
@@ -15,7 +15,7 @@ use Rattle.ld_segment.specs.Slots.{head_bytes}
 use Rattle.ld_segment.specs.Ops.{place_behind}
 use Rattle.ld_segment.specs.declared.later.Later.{Later}
 use Rattle.ld_segment.proofs.Readings.{no_head}
-use Rattle.ld_store.specs.Ops.{AreThere, IsBodyOrHead, IsBodyAt, IsDamagedRow, PassesLimit, HasPayloadPast, IsOffBehind, within}
+use Rattle.ld_store.specs.Ops.{AreThere, IsBodyOf, IsBodyOrHead, IsDamagedRow, PassesLimit, HasPayloadPast, IsOffBehind, within}
 use Rattle.ld_store.specs.Replayed.{HasReplayed, Replayed}
 use Rattle.ld_store.specs.Read.{IsOut}
 use Rattle.ld_store.specs.declared.fault.StoreFault.{StoreFault}
@@ -48,7 +48,7 @@ start from opening base bytes w there is = subst (λ x. HasReplayed from opening
 
 -- ---- a later segment ----
 
-pub row_in : (from : ℕ) (opening : Version) (place : ℕ) (bytes : List ℕ) → IsDamagedRow IsBodyOrHead from opening place bytes → IsDamagedRow IsBodyAt from opening place bytes
+pub row_in : (from : ℕ) (opening : Version) (place : ℕ) (bytes : List ℕ) → IsDamagedRow IsBodyOrHead from opening place bytes → IsDamagedRow IsBodyOf from opening place bytes
 row_in from opening place bytes d = record {
   found = d.found;
   version = d.version;
@@ -62,20 +62,20 @@ row_in from opening place bytes d = record {
 }
 
 -- a head may not stand there
-pub headed_in : (from : ℕ) (opening : Version) (base : Plain) (bytes : List ℕ) (w : Walk) (index : Plain) (place : ℕ) → place ≡ w.at → Replayed from opening base bytes w index true → IsDamagedRow IsBodyAt from opening place bytes
-headed_in from opening base bytes w index place is r =
+pub headed_in : (from : ℕ) (opening : Version) (base : Plain) (bytes : List ℕ) (w : Walk) (index : Plain) (head place : ℕ) → place ≡ w.at → Replayed from opening base bytes w index (Some head) → IsDamagedRow IsBodyOf from opening place bytes
+headed_in from opening base bytes w index head place is r =
     let has = r.has in
-    let begins = r.stops in
+    let begins = r.stops.begins in
     record {
       found = has.found;
       version = w.version;
       rest = has.rest;
       there = has.there;
       place_is = is ∙ has.at_is;
-      cause = inr (record { body = head_bytes (w.at + 15); after = begins.after; rest_is = begins.rest_is; some = begins.some; fits = begins.fits; none = λ may. no_head may.found (w.at + 15) (sym may.body_is) });
+      cause = inr (record { body = head_bytes head; after = begins.after; rest_is = begins.rest_is; some = begins.some; fits = begins.fits; none = λ may. no_head may.found head (sym may.body_is) });
     }
 
-pub past_in : (c : Later) (bytes : List ℕ) (last : Walk) (index : Plain) → Replayed c.gate c.version c.based.index.state bytes last index false → journal_limit < c.gate + 1 + room_for last.first → PassesLimit c bytes
+pub past_in : (c : Later) (bytes : List ℕ) (last : Walk) (index : Plain) → Replayed c.gate c.version c.based.index.state bytes last index None → journal_limit < c.gate + 1 + room_for last.first → PassesLimit c bytes
 past_in c bytes last index r past =
     let has = r.has in
     record {
@@ -86,7 +86,7 @@ past_in c bytes last index r past =
       long = subst (λ n. journal_limit < c.gate + 1 + room_for n) has.first_is past;
     }
 
-pub payload_in : (c : Later) (bytes : List ℕ) (last : Walk) (index : Plain) → Replayed c.gate c.version c.based.index.state bytes last index false → (each_plain (within (length bytes)) index ≡ index → ⊥) → HasPayloadPast c bytes
+pub payload_in : (c : Later) (bytes : List ℕ) (last : Walk) (index : Plain) → Replayed c.gate c.version c.based.index.state bytes last index None → (each_plain (within (length bytes)) index ≡ index → ⊥) → HasPayloadPast c bytes
 payload_in c bytes last index r past =
     let has = r.has in
     record {
@@ -111,37 +111,42 @@ begins_open body rest begins shut = shut.shut (ap first_byte (sym shut.rest_is �
 
 -- ---- behind the head ----
 
-module _ (bytes : List ℕ) (w : Walk) (closed : Plain) (r : Replayed 0 Blank unformatted bytes w closed true) where
-  after_at : drop (w.at + 14) bytes ≡ r.stops.after
-  after_at =
-      let head = head_bytes (w.at + 15) in
-      let nine : length head ≡ 9 = omega arith in
-      behind w.at 14 (framed head) r.stops.after bytes (omega (arith, length-framed head, nine)) (rest_at 0 Blank unformatted bytes w closed r.has ∙ r.stops.rest_is)
+module _ (bytes : List ℕ) (w : Walk) (closed : Plain) (head : ℕ) (r : Replayed 0 Blank unformatted bytes w closed (Some head)) where
+  abbrev after : List ℕ
+  after = r.stops.begins.after
 
-  parts : take (w.at + 14) bytes ++ r.stops.after ≡ bytes
+  after_at : drop (w.at + 14) bytes ≡ after
+  after_at =
+      let body = head_bytes head in
+      let nine : length body ≡ 9 = omega arith in
+      behind w.at 14 (framed body) after bytes (omega (arith, length-framed body, nine)) (rest_at 0 Blank unformatted bytes w closed r.has ∙ r.stops.begins.rest_is)
+
+  parts : take (w.at + 14) bytes ++ after ≡ bytes
   parts = ap (λ l. take (w.at + 14) bytes ++ l) (sym after_at) ∙ take-append-drop (w.at + 14) bytes
 
-  pub head_long : length bytes ≡ length (take (w.at + 14) bytes ++ r.stops.after)
+  pub head_long : length bytes ≡ length (take (w.at + 14) bytes ++ after)
   head_long = ap (λ (l : List ℕ). length l) (sym parts)
 
-  pub head_parted : {D : Type 0} (seen : D → Option (List ℕ)) (disk : D) → seen disk ≡ Some bytes → IsParted seen disk (w.at + 14) (take (w.at + 14) bytes) r.stops.after
+  pub head_parted : {D : Type 0} (seen : D → Option (List ℕ)) (disk : D) → seen disk ≡ Some bytes → IsParted seen disk (w.at + 14) (take (w.at + 14) bytes) after
   head_parted seen disk told = record {
     bytes = told ∙ ap (λ l. Some l) (sym parts);
-    place_is = omega (arith, length-take (w.at + 14) bytes, length-drop (w.at + 14) bytes, ap (λ (l : List ℕ). length l) after_at, r.stops.some);
-    some = r.stops.some;
+    place_is = omega (arith, length-take (w.at + 14) bytes, length-drop (w.at + 14) bytes, ap (λ (l : List ℕ). length l) after_at, r.stops.begins.some);
+    some = r.stops.begins.some;
   }
 
-  pub later_out : (place : ℕ) → IsOffBehind w.version w.at r.stops.after place bytes → IsOut place bytes
+  pub later_out : (place : ℕ) → IsOffBehind w.version w.at head after place bytes → IsOut place bytes
   later_out place off =
       let has = r.has in
       let at : w.at ≡ place_behind has.found = omega (arith, has.at_is) in
       inr (record {
         found = has.found;
         version = w.version;
-        after = r.stops.after;
-        there = subst (λ k. AreThere 0 Blank has.found w.version (framed (head_bytes (k + 15)) ++ r.stops.after) bytes) at (subst (λ rest. AreThere 0 Blank has.found w.version rest bytes) r.stops.rest_is has.there);
-        some = r.stops.some;
-        cause = subst (λ k. IsOffBehind w.version k r.stops.after place bytes) at off;
+        head = head;
+        after = after;
+        there = subst (λ rest. AreThere 0 Blank has.found w.version rest bytes) r.stops.begins.rest_is has.there;
+        fits = r.stops.fits;
+        some = r.stops.begins.some;
+        cause = subst (λ k. IsOffBehind w.version k head after place bytes) at off;
       })
 
 pub no_false : {b : Bool} → b ≡ true → b ≡ false → ⊥

@@ -90,12 +90,12 @@ first_blank bytes l index version r =
 later_blank : (bytes : List ℕ) (l : Laid) (index : Plain) (version : Version) → IsLaterRead bytes l index version → IsBlank (is_blank version) bytes
 later_blank bytes l index version r =
     let has = r.first.has in
-    let begins = r.first.stops in
+    let begins = r.first.stops.begins in
     let base = r.there.base in
     let some : is_blank version ≡ false = ap is_blank r.version_is ∙ never_again r.later.version r.last.version r.rest.has.found (some_base r.later.based.kind r.walk.version r.later.version base.version_is) r.rest.has.there.placed in
     record {
       none = λ is. absurd (not_both (is_blank version) is some);
-      some = λ is j. j.journal.shut (ap first_byte (sym j.journal.bytes_are ∙ has.there.bytes_are ∙ ap (λ l. records (bodies_of has.found) ++ l) begins.rest_is) ∙ begins_open has.found (head_bytes (r.walk.at + 15)) begins.after);
+      some = λ is j. j.journal.shut (ap first_byte (sym j.journal.bytes_are ∙ has.there.bytes_are ∙ ap (λ l. records (bodies_of has.found) ++ l) begins.rest_is) ∙ begins_open has.found (head_bytes r.head) begins.after);
     }
 
 pub blank_read : (bytes : List ℕ) (l : Laid) (index : Plain) (version : Version) → IsRead bytes l index version → IsBlank (is_blank version) bytes

@@ -9,6 +9,7 @@ pub mod Holding
 pub mod Inside
 pub mod PastEnd
 pub mod Applying
+pub mod Heads
 pub mod Replaying
 pub mod Damage
 pub mod OneLayout

@@ -15,8 +15,7 @@ use Rattle.ld_op.specs.Plain.{Plain, unformatted}
 use Rattle.ld_op.specs.Indexed as based
 use Rattle.ld_layout.specs.Base.{base_bytes}
 use Rattle.ld_layout.specs.LaidOut.{later_of}
-use Rattle.ld_layout.specs.Layout.{Layout, Segment, head_end, room_for, IfSegment, entry_count, base_length, live_areas, switches}
-use Rattle.ld_layout.specs.Areas.{AreLive}
+use Rattle.ld_layout.specs.Layout.{Layout, Segment, room_for, entry_count, base_length, switches}
 use Rattle.ld_layout.proofs.Lengths.{base_long}
 use Rattle.ld_layout.proofs.Segments.{count_is}
 use Rattle.ld_segment.specs.Found.{slots_of}
@@ -24,11 +23,10 @@ use Rattle.ld_segment.specs.Later.{IsThere, IsReadAs}
 use Rattle.ld_segment.specs.Stays.{StandsAt}
 use Rattle.ld_segment.specs.declared.later.Later.{Later}
 use Rattle.ld_segment.specs.Ops.{bodies_of, place_behind, op_count, version_on, indexed, ArePlaced}
-use Rattle.ld_segment.specs.Lies.{Slots, LiesAs, IsSound, IfBounded, IsLater, IsCurrent, IsIndexed, head_of, first_length, mark_row, calls_by, switch_row, segment_for}
+use Rattle.ld_segment.specs.Lies.{Slots, LiesAs, IsSound, IsLater, IsCurrent, IsIndexed, head_of, first_length, mark_row, calls_by, switch_row, segment_for}
 use Rattle.ld_segment.proofs.Bodies.{same_version, records_fit}
 use Rattle.ld_segment.proofs.Readings.{same_records, same_rows}
 use Rattle.ld_segment.proofs.CurrentSlots.{gate_same}
-use Rattle.ld_segment.proofs.Standing.{head_before}
 use Rattle.ld_segment.proofs.ReadLater.{read_as, read_kept}
 use Rattle.ld_store.specs.Ops.{AreThere, IsOpenAs, IfOpenAs}
 use Rattle.ld_store.specs.Laid.{layout_in, slots_in}
@@ -37,7 +35,7 @@ use Rattle.ld_store.specs.Read.{IsFirstRead, IsLaterRead, IsRead, read_segment}
 use Rattle.ld_store.specs.declared.laid.Laid.{Laid}
 use Rattle.ld_store.specs.declared.replay.Walk.{Walk}
 use Rattle.ld_store.proofs.Replaying.{behind}
-use Rattle.ld_store.proofs.Damage.{headed}
+use Rattle.ld_store.proofs.Damage.{fits_is, headed}
 
 -- it is this layout, with the slots as they were read
 pub record IsSame (v : Version) (y : Layout) (z : Slots) (l : Laid) (index : Plain) (version : Version) (bytes : List ℕ) : Type 0 where
@@ -135,7 +133,7 @@ module _ (v : Version) (y : Layout) (z : Slots) (bytes : List ℕ) (g : Segment)
   rest_is = subst (λ k. IsJournal (bodies_of cur.records) (drop k bytes)) (sym as_read.gate_is)
       (rest_row g.place (base_length cur.base g.areas) (base_bytes cur.kind cur.base g.areas) (bodies_of cur.records) bytes (base_long cur.kind cur.base g.areas) cur.journal)
 
-  module _ (last : Walk) (index : Plain) (rest : Replayed c.gate c.version c.based.index.state bytes last index false) where
+  module _ (last : Walk) (index : Plain) (rest : Replayed c.gate c.version c.based.index.state bytes last index None) where
     abbrev has : HasReplayed c.gate c.version c.based.index.state bytes last index
     has = rest.has
 
@@ -164,24 +162,16 @@ module _ (v : Version) (y : Layout) (z : Slots) (bytes : List ℕ) (g : Segment)
       let open_is = open_same z.other c.found.other z.is_open c.found.is_open gates.gate there.found.gate bytes (sym as_read.slots.1) gates.there there.found.gate_there gates.open_is there.found.open_is in
       λ i. record { this = sym as_read.slots.0 i; other = sym as_read.slots.1 i; is_open = open_is i }
 
--- number and place of a sound segment fit their fields
-pub fits_is : (y : Layout) (g : Segment) → IsSound y → y.later ≡ Some g → (g.number < 2 ^ 64) × ((g.place < 2 ^ 64) × (head_end y.end ≤ g.place))
-fits_is y g sound is =
-    let bounded = subst (λ a. IfBounded y.end a) is sound.bounded in
-    let segment = subst (λ a. IfSegment a) is sound.laid.segment in
-    let live = subst (λ a. AreLive (live_areas y a)) is sound.laid.live in
-    (bounded.number, (omega (arith, bounded.limit, segment.begun, segment.within), head_before y g live segment))
-
 later_same : (v : Version) (y : Layout) (z : Slots) (bytes : List ℕ) (l : Laid) (index : Plain) (version : Version) → LiesAs v y z bytes → IsSound y → IsLaterRead bytes l index version → IsSame v y z l index version bytes
 later_same v y z bytes l index version lies sound r =
     let has = r.first.has in
-    let begins = r.first.stops in
-    let h = headed v y z bytes lies has.found r.walk.version (r.walk.at + 15) begins.after (subst (λ rest. AreThere 0 Blank has.found r.walk.version rest bytes) begins.rest_is has.there) in
+    let begins = r.first.stops.begins in
+    let h = headed v y z bytes lies sound has.found r.walk.version r.head begins.after r.first.stops.fits (subst (λ rest. AreThere 0 Blank has.found r.walk.version rest bytes) begins.rest_is has.there) in
     let g = h.later in
     let fits = fits_is y g sound h.later_is in
     let end : y.end ≡ r.walk.at = omega (arith, lies.end_is, ap place_behind h.rows, has.at_is) in
     let is : IsLater lies.first v (y.end + 15) z g y.index bytes = subst (λ a. IsIndexed lies.first v y z a lies.records bytes) h.later_is lies.index_is in
-    let there : IsThere lies.first (y.end + 15) r.later bytes = subst (λ w. IsThere w (y.end + 15) r.later bytes) (sym h.version_is) (subst (λ k. IsThere r.walk.version (k + 15) r.later bytes) (sym end) r.there) in
+    let there : IsThere lies.first (y.end + 15) r.later bytes = subst (λ w. IsThere w (y.end + 15) r.later bytes) (sym h.version_is) (subst (λ k. IsThere r.walk.version k r.later bytes) h.head_is r.there) in
     let segment = segment_same v y z bytes g lies.first is fits.0 fits.1.0 r.later there r.last index r.rest in
     let ops : y.ops ≡ l.layout.ops = lies.ops_is ∙ ap op_count h.rows ∙ sym has.ops_is ∙ sym (ap (λ p. p.ops) r.layout_is) in
     let end_is : y.end ≡ l.layout.end = end ∙ sym (ap (λ p. p.end) r.layout_is) in

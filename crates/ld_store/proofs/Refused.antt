@@ -19,17 +19,17 @@ use Rattle.ld_segment.specs.Ops.{bodies_of, place_behind, indexed, ArePlaced}
 use Rattle.ld_segment.specs.Lies.{Slots, LiesAs, IsSound, IsIndexed, IsLater, IfBounded, StandsFor, head_of, first_length}
 use Rattle.ld_segment.proofs.Readings.{no_head, same_records}
 use Rattle.ld_segment.proofs.ReadLater.{not_refused}
-use Rattle.ld_store.specs.Ops.{IsBodyOrHead, IsBodyAt, IsDamagedRow, PassesLimit, HasAreaPast, HasPayloadPast, IsNoBase, IsDamagedIn, IsDamagedLater, within}
+use Rattle.ld_store.specs.Ops.{IsBodyOf, IsBodyOrHead, IsDamagedRow, PassesLimit, HasAreaPast, HasPayloadPast, IsNoBase, IsDamagedIn, IsDamagedLater, within}
 use Rattle.ld_store.specs.Read.{IsOut}
-use Rattle.ld_store.proofs.Damage.{row_fine, headed}
+use Rattle.ld_store.proofs.Damage.{row_fine, fits_is, headed}
 use Rattle.ld_store.proofs.Inside.{inside}
-use Rattle.ld_store.proofs.OneLayout.{fits_is, as_read, rest_is}
+use Rattle.ld_store.proofs.OneLayout.{as_read, rest_is}
 
 -- ---- the first segment ----
 
-head_may : (y : Layout) (a : Option Segment) (first : Version) (end : ℕ) → y.end ≡ end → (q : List ℕ) (more : List (List ℕ)) → head_of y a ≡ q ∷ more → IsBodyOrHead first end q
-head_may y None w end is q more same = absurd (cc same)
-head_may y (Some g) w end is q more same = let body : head_bytes (y.end + 15) ≡ q = cc same in inr (sym body ∙ ap (λ k. head_bytes (k + 15)) is)
+head_may : (y : Layout) (a : Option Segment) (first : Version) (q : List ℕ) (more : List (List ℕ)) → head_of y a ≡ q ∷ more → IsBodyOrHead first q
+head_may y None w q more same = absurd (cc same)
+head_may y (Some g) w q more same = let body : head_bytes (y.end + 15) ≡ q = cc same in inr (record { head = y.end + 15; body_is = sym body })
 
 head_other : (y : Layout) (a : Option Segment) (u : Record) (more : List (List ℕ)) → head_of y a ≡ record_bytes u ∷ more → ⊥
 head_other y None u more same = absurd (cc same)
@@ -37,8 +37,8 @@ head_other y (Some g) u more same = let body : head_bytes (y.end + 15) ≡ recor
 
 not_first : (v : Version) (y : Layout) (z : Slots) (bytes : List ℕ) (place : ℕ) → LiesAs v y z bytes → IsDamagedRow IsBodyOrHead 0 Blank place bytes → ⊥
 not_first v y z bytes place lies damaged =
-    row_fine IsBodyOrHead (λ w k body is. inl is) 0 Blank lies.first lies.records (head_of y y.later) bytes place lies.journal lies.placed
-    (head_may y y.later lies.first (0 + place_behind lies.records) (omega (arith, lies.end_is))) (head_other y y.later) damaged
+    row_fine IsBodyOrHead (λ w body is. inl is) 0 Blank lies.first lies.records (head_of y y.later) bytes place lies.journal lies.placed
+    (head_may y y.later lies.first) (head_other y y.later) damaged
 
 -- ---- what the head names ----
 
@@ -62,9 +62,9 @@ module _ (v : Version) (y : Layout) (z : Slots) (bytes : List ℕ) (lies : LiesA
     placed : ArePlaced c.version is.current.records v
     placed = subst (λ w. ArePlaced w is.current.records v) (sym read.version_is) is.current.placed
 
-    not_row : (place : ℕ) → IsDamagedRow IsBodyAt c.gate c.version place bytes → ⊥
+    not_row : (place : ℕ) → IsDamagedRow IsBodyOf c.gate c.version place bytes → ⊥
     not_row place damaged =
-        row_fine IsBodyAt (λ w k body is. is) c.gate c.version v is.current.records [] bytes place
+        row_fine IsBodyOf (λ w body is. is) c.gate c.version v is.current.records [] bytes place
         (subst (λ l. IsJournal l (drop c.gate bytes)) (sym (append-nil (bodies_of is.current.records))) journal) placed
         (λ q more same. absurd (cc same)) (λ u more same. absurd (cc same)) damaged
 
@@ -98,15 +98,14 @@ module _ (v : Version) (y : Layout) (z : Slots) (bytes : List ℕ) (lies : LiesA
 
 not_later : (v : Version) (y : Layout) (z : Slots) (bytes : List ℕ) (place : ℕ) → LiesAs v y z bytes → IsSound y → IsDamagedLater place bytes → ⊥
 not_later v y z bytes place lies sound d =
-    let h = headed v y z bytes lies d.found d.version (place_behind d.found + 15) d.after d.there in
-    let end : place_behind d.found ≡ y.end = sym (ap place_behind h.rows) ∙ sym lies.end_is in
+    let h = headed v y z bytes lies sound d.found d.version d.head d.after d.fits d.there in
     ⊎_elim
     (λ gate. gate.1 h.shut)
     (λ rest. ⊎_elim
-    (λ past. not_past v y z bytes lies sound h.later h.later_is (omega (arith, past.1, end)))
+    (λ past. not_past v y z bytes lies sound h.later h.later_is (omega (arith, past.1, h.head_is)))
     (λ rest. ⊎_elim
-    (λ behind. not_behind v y z bytes lies sound h.later h.later_is place (subst (λ w. IsDamagedBehind w (y.end + 15) place bytes) (sym h.version_is) (subst (λ k. IsDamagedBehind d.version (k + 15) place bytes) end behind)))
-    (λ inner. not_in v y z bytes lies sound h.later h.later_is place (subst (λ w. IsDamagedIn w (y.end + 15) place bytes) (sym h.version_is) (subst (λ k. IsDamagedIn d.version (k + 15) place bytes) end inner)))
+    (λ behind. not_behind v y z bytes lies sound h.later h.later_is place (subst (λ w. IsDamagedBehind w (y.end + 15) place bytes) (sym h.version_is) (subst (λ k. IsDamagedBehind d.version k place bytes) h.head_is behind)))
+    (λ inner. not_in v y z bytes lies sound h.later h.later_is place (subst (λ w. IsDamagedIn w (y.end + 15) place bytes) (sym h.version_is) (subst (λ k. IsDamagedIn d.version k place bytes) h.head_is inner)))
     rest)
     rest)
     d.cause

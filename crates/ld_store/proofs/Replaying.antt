@@ -1,5 +1,5 @@
 -- One record more of a segment that was replayed.
-use Rattle.std.proofs.Common.{◌≡◌, ◌≢◌, inl, inr, ◌<◌, ◌+◌, ◌==◌, take, drop, ℕ, List, [], ◌∷◌, ◌++◌, length, false, cond, if◌then◌else◌, Option, Some, sym, ◌∙◌, ap, refl, arith, take-append-drop}
+use Rattle.std.proofs.Common.{◌≡◌, inl, inr, ◌<◌, ◌+◌, ◌==◌, take, drop, ℕ, List, [], ◌∷◌, ◌++◌, length, false, cond, if◌then◌else◌, Option, Some, sym, ◌∙◌, ap, refl, arith, take-append-drop}
 use Rattle.std.proofs.lemmas.List.{drop-drop, length-take, length-drop}
 use Rattle.std.proofs.lemmas.Bool.Decides.{nat_tests}
 use Rattle.std.proofs.Math.Seq.{drop-append_seam}
@@ -13,11 +13,10 @@ use Rattle.ld_op.specs.declared.version.Version.{Version}
 use Rattle.ld_op.specs.Plain.{Plain}
 use Rattle.ld_op.specs.Records.{applied, body_length}
 use Rattle.ld_op.specs.Bytes.{record_bytes}
-use Rattle.ld_segment.specs.Slots.{head_bytes}
 use Rattle.ld_segment.specs.Ops.{bodies_of, place_behind, op_count, placed_record}
 use Rattle.ld_segment.specs.Lies.{first_length}
 use Rattle.ld_segment.proofs.Bodies.{record_long, bodies-push, placed-push, place-push, count-push, counts_as, indexed-push, places}
-use Rattle.ld_store.specs.Ops.{IsBodyOf, IsBodyOrHead, IsDamagedRow}
+use Rattle.ld_store.specs.Ops.{IsBodyOf, IsBodyOrHead, IsHead, IsDamagedRow}
 use Rattle.ld_store.specs.Replayed.{HasReplayed, IsWithRecord}
 use Rattle.ld_store.specs.declared.replay.Walk.{Walk}
 
@@ -80,7 +79,7 @@ module _ (from : ℕ) (opening : Version) (base : Plain) (bytes : List ℕ) (w :
   pub cut_short : (place : ℕ) → place ≡ w.at → IsCutShort has.rest → IsDamagedRow IsBodyOrHead from opening place bytes
   cut_short place is cut = record { found = has.found; version = w.version; rest = has.rest; there = has.there; place_is = is ∙ has.at_is; cause = inl cut }
 
-  pub foreign : (place : ℕ) (body : List ℕ) → place ≡ w.at → BeginsWith body has.rest → (IsBodyOf w.version body → ⊥) → body ≢ head_bytes (w.at + 15) → IsDamagedRow IsBodyOrHead from opening place bytes
+  pub foreign : (place : ℕ) (body : List ℕ) → place ≡ w.at → BeginsWith body has.rest → (IsBodyOf w.version body → ⊥) → (IsHead body → ⊥) → IsDamagedRow IsBodyOrHead from opening place bytes
   foreign place body is begins none other = record {
     found = has.found;
     version = w.version;
@@ -95,7 +94,7 @@ module _ (from : ℕ) (opening : Version) (base : Plain) (bytes : List ℕ) (w :
       fits = begins.fits;
       none = λ may. elim may [
         | inl one ↦ none one
-        | inr head ↦ other (head ∙ ap (λ k. head_bytes (k + 15)) is)
+        | inr head ↦ other head
       ];
     });
   }

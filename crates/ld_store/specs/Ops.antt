@@ -12,9 +12,9 @@ use Rattle.ld_op.specs.Bounds.{IsRecord}
 use Rattle.ld_op.specs.Bytes.{record_bytes}
 use Rattle.ld_op.specs.Cells.{each_plain}
 use Rattle.ld_table.specs.Table.{find}
-use Rattle.ld_layout.specs.Layout.{Layout, Segment, room_for, head_end}
+use Rattle.ld_layout.specs.Layout.{Layout, Segment, room_for}
 use Rattle.ld_segment.specs.Stays.{StandsAt}
-use Rattle.ld_segment.specs.Slots.{head_bytes}
+use Rattle.ld_segment.specs.Slots.{head_bytes, slot_length}
 use Rattle.ld_segment.specs.Ops.{bodies_of, place_behind, indexed, ArePlaced}
 use Rattle.ld_segment.specs.Lies.{Slots, LiesAs, IsSound, first_length, mark_passes}
 use Rattle.ld_segment.specs.Later.{IsThere, IsDamagedBehind}
@@ -87,22 +87,23 @@ pub record IsForeign (MayStand : List ℕ → Type 0) (rest : List ℕ) : Type 0
 abbrev pub IsOff : (List ℕ → Type 0) → List ℕ → Type 0
 IsOff MayStand rest = IsCutShort rest ⊎ IsForeign MayStand rest
 
--- what may stand behind a version, at a place of the first segment
-abbrev pub IsBodyOrHead : Version → ℕ → List ℕ → Type 0
-IsBodyOrHead version place body = IsBodyOf version body ⊎ (body ≡ head_bytes (place + 15))
+-- the body of a head, whatever place it names
+pub record IsHead (body : List ℕ) : Type 0 where
+  pub head : ℕ
+  pub body_is : body ≡ head_bytes head
 
--- and at one of a later segment
-abbrev pub IsBodyAt : Version → ℕ → List ℕ → Type 0
-IsBodyAt version place body = IsBodyOf version body
+-- what may stand behind a version in the first segment; in a later one no head may
+abbrev pub IsBodyOrHead : Version → List ℕ → Type 0
+IsBodyOrHead version body = IsBodyOf version body ⊎ IsHead body
 
 -- behind records from a place on there is, at this place, one that is cut short, or one whose body is none that may stand there
-pub record IsDamagedRow (MayStand : Version → ℕ → List ℕ → Type 0) (from : ℕ) (opening : Version) (place : ℕ) (bytes : List ℕ) : Type 0 where
+pub record IsDamagedRow (MayStand : Version → List ℕ → Type 0) (from : ℕ) (opening : Version) (place : ℕ) (bytes : List ℕ) : Type 0 where
   pub found : List Record
   pub version : Version
   pub rest : List ℕ
   pub there : AreThere from opening found version rest bytes
   pub place_is : place ≡ from + place_behind found
-  pub cause : IsOff (MayStand version place) rest
+  pub cause : IsOff (MayStand version) rest
 
 -- the segment of this Base, with the records behind it, would pass the limit
 pub record PassesLimit (c : Later) (bytes : List ℕ) : Type 0 where
@@ -135,21 +136,23 @@ IsNoBase c bytes = PassesLimit c bytes ⊎ (HasAreaPast c bytes ⊎ HasPayloadPa
 pub record IsDamagedIn (opening : Version) (head place : ℕ) (bytes : List ℕ) : Type 0 where
   pub later : Later
   pub there : IsThere opening head later bytes
-  pub cause : IsDamagedRow IsBodyAt later.gate later.version place bytes ⊎ ((place ≡ later.found.place) × IsNoBase later bytes)
+  pub cause : IsDamagedRow IsBodyOf later.gate later.version place bytes ⊎ ((place ≡ later.found.place) × IsNoBase later bytes)
 
--- the head whose gate is at this end is no journal's last record, or what it names passes the limit, or isn't there, or is damaged
-abbrev pub IsOffBehind : Version → ℕ → List ℕ → ℕ → List ℕ → Type 0
-IsOffBehind version end after place bytes =
-    ((place ≡ end + 14) × (IsShut after → ⊥)) ⊎ (((place ≡ end + 15) × (journal_limit < head_end end)) ⊎ (IsDamagedBehind version (end + 15) place bytes ⊎ IsDamagedIn version (end + 15) place bytes))
+-- the head whose gate is at this end is no journal's last record, or the slots that it names pass the limit, or what they name isn't there, or is damaged
+abbrev pub IsOffBehind : Version → ℕ → ℕ → List ℕ → ℕ → List ℕ → Type 0
+IsOffBehind version end head after place bytes =
+    ((place ≡ end + 14) × (IsShut after → ⊥)) ⊎ (((place ≡ head) × (journal_limit < head + slot_length + slot_length)) ⊎ (IsDamagedBehind version head place bytes ⊎ IsDamagedIn version head place bytes))
 
 -- the first segment ends with the head, and of what that names something is out of place
 pub record IsDamagedLater (place : ℕ) (bytes : List ℕ) : Type 0 where
   pub found : List Record
   pub version : Version
+  pub head : ℕ
   pub after : List ℕ
-  pub there : AreThere 0 Blank found version (framed (head_bytes (place_behind found + 15)) ++ after) bytes
+  pub there : AreThere 0 Blank found version (framed (head_bytes head) ++ after) bytes
+  pub fits : head < 2 ^ 64
   pub some : 0 < length after
-  pub cause : IsOffBehind version (place_behind found) after place bytes
+  pub cause : IsOffBehind version (place_behind found) head after place bytes
 
 -- the bytes stand for nothing, and this is the place where that shows
 pub record IsDamaged (place : ℕ) (bytes : List ℕ) : Type 0 where

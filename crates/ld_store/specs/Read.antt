@@ -1,5 +1,5 @@
 -- What was read of a disk.
-use Rattle.std.specs.Prelude.{◌≡◌, ◌⊎◌, ◌≤◌, ◌+◌, ◌-◌, ◌^◌, ℕ, List, length, min, Some, None, true, false}
+use Rattle.std.specs.Prelude.{◌≡◌, ◌⊎◌, ◌≤◌, ◌+◌, ◌-◌, ◌^◌, ℕ, List, length, min, Some, None}
 use Rattle.ld_journal.specs.Rest.{IsShut}
 use Rattle.ld_op.specs.declared.version.Version.{Version}
 use Rattle.ld_op.specs.declared.version.Version.TheVariants.{Blank}
@@ -34,7 +34,7 @@ read_segment c w = record {
 -- these bytes are a journal of one segment
 pub record IsFirstRead (bytes : List ℕ) (l : Laid) (index : Plain) (version : Version) : Type 0 where
   pub walk : Walk
-  pub all : Replayed 0 Blank unformatted bytes walk index false
+  pub all : Replayed 0 Blank unformatted bytes walk index None
   pub layout_is : l.layout ≡ record { ops = walk.ops; end = walk.at; later = None }
   pub version_is : version ≡ walk.version
 
@@ -42,12 +42,13 @@ pub record IsFirstRead (bytes : List ℕ) (l : Laid) (index : Plain) (version : 
 pub record IsLaterRead (bytes : List ℕ) (l : Laid) (index : Plain) (version : Version) : Type 0 where
   pub walk : Walk
   pub closed : Plain
-  pub first : Replayed 0 Blank unformatted bytes walk closed true
-  pub shut : IsShut first.stops.after
+  pub head : ℕ
+  pub first : Replayed 0 Blank unformatted bytes walk closed (Some head)
+  pub shut : IsShut first.stops.begins.after
   pub later : Later
-  pub there : IsThere walk.version (walk.at + 15) later bytes
+  pub there : IsThere walk.version head later bytes
   pub last : Walk
-  pub rest : Replayed later.gate later.version later.based.index.state bytes last index false
+  pub rest : Replayed later.gate later.version later.based.index.state bytes last index None
   -- no area of the Base and no payload behind its records ends past the disk's end
   pub areas : (place size : ℕ) → find place later.based.areas ≡ Some size → place + size ≤ length bytes
   pub inside : each_plain (within (length bytes)) index ≡ index

@@ -1,5 +1,5 @@
 -- How far the records of a segment were replayed.
-use Rattle.std.specs.Prelude.{◌≡◌, ◌<◌, ◌+◌, ◌==◌, ℕ, List, [], ◌∷◌, length, Bool, true, false, Some, if◌then◌else◌}
+use Rattle.std.specs.Prelude.{◌≡◌, ◌<◌, ◌+◌, ◌^◌, ◌==◌, ℕ, List, [], ◌∷◌, length, Option, None, Some, if◌then◌else◌}
 use Rattle.ld_journal.specs.Rest.{IsShut, BeginsWith}
 use Rattle.ld_msg.specs.Register.{record_length}
 use Rattle.ld_op.specs.declared.record.Record.{Record}
@@ -38,12 +38,17 @@ pub record HasReplayed (from : ℕ) (opening : Version) (base : Plain) (bytes : 
   pub first_is : w.first ≡ first_length found
   pub index_is : index ≡ indexed from base found
 
--- they end at a shut gate, or at the head
-abbrev pub Stops : Bool → ℕ → List ℕ → Type 0
-Stops false at rest = IsShut rest
-Stops true at rest = BeginsWith (head_bytes (at + 15)) rest
+-- the record of a head that names this place, and more
+pub record BeginsWithHead (head : ℕ) (rest : List ℕ) : Type 0 where
+  pub begins : BeginsWith (head_bytes head) rest
+  pub fits : head < 2 ^ 64
+
+-- they end at a shut gate, or at a head, which names a place
+abbrev pub Stops : Option ℕ → List ℕ → Type 0
+Stops None rest = IsShut rest
+Stops (Some head) rest = BeginsWithHead head rest
 
 -- all records of the segment were replayed
-pub record Replayed (from : ℕ) (opening : Version) (base : Plain) (bytes : List ℕ) (w : Walk) (index : Plain) (is_headed : Bool) : Type 0 where
+pub record Replayed (from : ℕ) (opening : Version) (base : Plain) (bytes : List ℕ) (w : Walk) (index : Plain) (head : Option ℕ) : Type 0 where
   pub has : HasReplayed from opening base bytes w index
-  pub stops : Stops is_headed w.at has.rest
+  pub stops : Stops head has.rest

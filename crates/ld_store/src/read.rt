@@ -87,18 +87,20 @@ fn segment_behind(
     })
 }
 
-/// Reads what the head names that stands behind the records of the first segment, which were replayed.
+/// Reads what the head that stands behind the records of the first segment, which were replayed, names: slots at this
+/// place, whether they stand right behind it or not.
 fn read_behind<D: Disk>(
     alloc: Global,
     disk: &mut D,
     len: u64,
     walk: Walk,
+    head: u64,
 ) -> Result<Journal, StoreFault>
     requires within { walk.at + 14 < len }
     ensures read { IfOk result (λ j. (closed : State) (bytes : List ℕ) → D.seen disk.old ≡ Some bytes → len ≡ length bytes
-        → Replayed 0 Blank unformatted bytes walk closed true → IsLaterRead bytes j.laid j.index.state j.version) }
+        → Replayed 0 Blank unformatted bytes walk closed (Some head) → IsLaterRead bytes j.laid j.index.state j.version) }
     ensures damaged { (place : ℕ) → IsErrOf result (StoreFault.Damaged place) → (closed : State) (bytes : List ℕ) → D.seen disk.old ≡ Some bytes → len ≡ length bytes
-        → Replayed 0 Blank unformatted bytes walk closed true → IsOut place bytes }
+        → Replayed 0 Blank unformatted bytes walk closed (Some head) → IsOut place bytes }
     ensures well { IfOk result (λ j. IsWell j.index.state) }
     ensures exact { (p : DiskPlain) → D.plain disk.old ≡ Some p → reads_fine p ≡ true
         → (D.plain disk.new ≡ Some p) × (result ≢ Err StoreFault.Disk) }
@@ -111,11 +113,11 @@ fn read_behind<D: Disk>(
     ensures needs_load { result ≢ Err StoreFault.NeedsLoad }
 {
     end_of_head(alloc, disk, walk.at + 14, len)?;
-    if LIMIT < walk.at.saturating_add(49) {
-        return Err(StoreFault::Damaged(walk.at + 15));
+    if LIMIT < head.saturating_add(34) {
+        return Err(StoreFault::Damaged(head));
     }
-    let later = read_later(alloc, disk, walk.at + 15, len, walk.version)?;
-    read_rest(alloc, disk, len, walk, later)
+    let later = read_later(alloc, disk, head, len, walk.version)?;
+    read_rest(alloc, disk, len, walk, head, later)
 }
 
 /// Whether each payload of the index stands before the end of a disk of so many bytes.
@@ -132,14 +134,15 @@ fn read_rest<D: Disk>(
     disk: &mut D,
     len: u64,
     walk: Walk,
+    head: u64,
     later: Later,
 ) -> Result<Journal, StoreFault>
     requires within { later.gate < len }
     requires well { IsWell later.based.index.state }
     ensures read { IfOk result (λ j. (closed : State) (bytes : List ℕ) → D.seen disk.old ≡ Some bytes → len ≡ length bytes
-        → (first : Replayed 0 Blank unformatted bytes walk closed true) → IsShut first.stops.after → IsThere walk.version (walk.at + 15) later bytes → IsLaterRead bytes j.laid j.index.state j.version) }
+        → (first : Replayed 0 Blank unformatted bytes walk closed (Some head)) → IsShut first.stops.begins.after → IsThere walk.version head later bytes → IsLaterRead bytes j.laid j.index.state j.version) }
     ensures damaged { (place : ℕ) → IsErrOf result (StoreFault.Damaged place) → (bytes : List ℕ) → D.seen disk.old ≡ Some bytes → len ≡ length bytes
-        → IsThere walk.version (walk.at + 15) later bytes → IsDamagedIn walk.version (walk.at + 15) place bytes }
+        → IsThere walk.version head later bytes → IsDamagedIn walk.version head place bytes }
     ensures well { IfOk result (λ j. IsWell j.index.state) }
     ensures exact { (p : DiskPlain) → D.plain disk.old ≡ Some p → reads_fine p ≡ true
         → (D.plain disk.new ≡ Some p) × (result ≢ Err StoreFault.Disk) }
@@ -167,8 +170,8 @@ fn read_rest<D: Disk>(
     }
     let based = index.entry_count();
     let mut index = index;
-    let (last, is_headed) = replay(alloc, disk, len, &mut index, Walk::from(version, gate))?;
-    if is_headed {
+    let (last, next) = replay(alloc, disk, len, &mut index, Walk::from(version, gate))?;
+    if let Some(_) = next {
         return Err(StoreFault::Damaged(last.at));
     }
     if !stands_within(&index, len) {
@@ -233,13 +236,13 @@ pub(crate) fn read<D: Disk>(alloc: Global, disk: &mut D, len: u64) -> Result<Jou
     ensures needs_load { result ≢ Err StoreFault.NeedsLoad }
 {
     let mut index = Plain::new(alloc);
-    let (walk, is_headed) = replay(alloc, disk, len, &mut index, Walk::from(Version::Blank, 0))?;
-    if is_headed {
-        return read_behind(alloc, disk, len, walk);
+    let (walk, head) = replay(alloc, disk, len, &mut index, Walk::from(Version::Blank, 0))?;
+    match head {
+        Some(place) => read_behind(alloc, disk, len, walk, place),
+        None => Ok(Journal {
+            laid: laid_alone(walk),
+            index,
+            version: walk.version,
+        }),
     }
-    Ok(Journal {
-        laid: laid_alone(walk),
-        index,
-        version: walk.version,
-    })
 }

@@ -1,5 +1,5 @@
 // How the records of a segment are replayed.
-ghost use Rattle.std.specs.Prelude.{◌≡◌, ◌≢◌, ◌⊎◌, ◌≤◌, ◌<◌, ◌+◌, ◌^◌, ◌∷◌, [], List, ℕ, length, IfOk, IfErr, OnOk, IsErrOf, Ok, Err, Some, true, false};
+ghost use Rattle.std.specs.Prelude.{◌≡◌, ◌≢◌, ◌⊎◌, ◌≤◌, ◌<◌, ◌+◌, ◌^◌, ◌∷◌, [], List, ℕ, length, IfOk, IfErr, IfSome, IfNone, OnOk, IsErrOf, Ok, Err, Some, None, true, false};
 ghost use Rattle.ld_io.specs.Causes.{Rose};
 ghost use Rattle.ld_disk.specs.Moments.{Unchanged};
 ghost use Rattle.ld_disk.specs.Plain.{Plain as DiskPlain, reads_fine};
@@ -12,12 +12,13 @@ ghost use Rattle.ld_op.specs.Bytes.{record_bytes};
 ghost use Rattle.ld_op.specs.Cells.{placed};
 ghost use Rattle.ld_segment.specs.Slots.{head_bytes};
 ghost use Rattle.ld_segment.specs.Ops.{op_count, placed_record};
-ghost use Rattle.ld_store.specs.Ops.{IsBodyOf, IsBodyOrHead, IsDamagedRow};
+ghost use Rattle.ld_store.specs.Ops.{IsBodyOf, IsBodyOrHead, IsHead, IsDamagedRow};
 ghost use Rattle.ld_store.specs.Well.{IsWell};
 ghost use Rattle.ld_store.specs.Replayed.{HasReplayed, Replayed, IsWithRecord, walked};
 ghost use Rattle.ld_store.specs.declared.replay.Walk.{Walk as Walked};
 
 use crate::StoreFault;
+use byteorder::{BigEndian, ByteOrder};
 use ld_disk::Disk;
 use ld_ids::NoMemory;
 use ld_journal::read_record;
@@ -42,8 +43,8 @@ pub(crate) enum Next {
     Record(Walk),
     /// A gate that ends them.
     End,
-    /// The head.
-    Head,
+    /// A head, which names this place.
+    Head(u64),
 }
 
 /// The record at a place of a journal of some version so far, and the version with it.
@@ -159,17 +160,20 @@ fn replay_body(
     Ok(walk.with_record(version, body.len() as u64, ops))
 }
 
-/// Whether the body behind a gate at this place is the head's.
-fn is_head(body: &[u8], at: u64) -> bool
-    requires { at + length body.now + 6 < 2 ^ 64 }
-    ensures head { result ≡ true → body.now ≡ head_bytes (at + 15) }
-    ensures other { result ≡ false → body.now ≢ head_bytes (at + 15) }
+/// The place that a head's body names; none where the body is no head's.
+fn head_in(body: &[u8]) -> Option<u64>
+    ensures head { IfSome result (λ place. (body.now ≡ head_bytes place) × (place < 2 ^ 64)) }
+    ensures other { IfNone result (IsHead body.now → ⊥) }
 {
     if body.len() != 9 {
-        return false;
+        return None;
     }
-    let bytes = head(at + 15);
-    body == &bytes[..]
+    let place = BigEndian::read_u64(&body[1..]);
+    if body == &head(place)[..] {
+        Some(place)
+    } else {
+        None
+    }
 }
 
 /// Replays the next record of a segment, on a disk of so many bytes, or tells what ends its records.
@@ -186,13 +190,13 @@ fn replay_next<D: Disk>(
     ensures more { (next : Walked) → result ≡ Ok (Next.Record next) → (from : ℕ) (opening : Stage) (base : State) (bytes : List ℕ) → D.seen disk.old ≡ Some bytes → len ≡ length bytes
         → HasReplayed from opening base bytes walk index.old.state → HasReplayed from opening base bytes next index.new.state }
     ensures end { result ≡ Ok Next.End → (from : ℕ) (opening : Stage) (base : State) (bytes : List ℕ) → D.seen disk.old ≡ Some bytes → len ≡ length bytes
-        → HasReplayed from opening base bytes walk index.old.state → Replayed from opening base bytes walk index.new.state false }
-    ensures head { result ≡ Ok Next.Head → (from : ℕ) (opening : Stage) (base : State) (bytes : List ℕ) → D.seen disk.old ≡ Some bytes → len ≡ length bytes
-        → HasReplayed from opening base bytes walk index.old.state → Replayed from opening base bytes walk index.new.state true }
+        → HasReplayed from opening base bytes walk index.old.state → Replayed from opening base bytes walk index.new.state None }
+    ensures head { (place : ℕ) → result ≡ Ok (Next.Head place) → (from : ℕ) (opening : Stage) (base : State) (bytes : List ℕ) → D.seen disk.old ≡ Some bytes → len ≡ length bytes
+        → HasReplayed from opening base bytes walk index.old.state → Replayed from opening base bytes walk index.new.state (Some place) }
     ensures damaged { (place : ℕ) → IsErrOf result (StoreFault.Damaged place) → (from : ℕ) (opening : Stage) (base : State) (bytes : List ℕ) → D.seen disk.old ≡ Some bytes → len ≡ length bytes
         → HasReplayed from opening base bytes walk index.old.state → IsDamagedRow IsBodyOrHead from opening place bytes }
     ensures advances { (next : Walked) → result ≡ Ok (Next.Record next) → (walk.at < next.at) × (next.at < len) × (next.ops ≤ next.at) }
-    ensures within { result ≡ Ok Next.Head → walk.at + 14 < len }
+    ensures within { (place : ℕ) → result ≡ Ok (Next.Head place) → walk.at + 14 < len }
     ensures well { OnOk result (IsWell index.new.state) }
     ensures exact { (p : DiskPlain) → D.plain disk.old ≡ Some p → reads_fine p ≡ true
         → (D.plain disk.new ≡ Some p) × (result ≢ Err StoreFault.Disk) }
@@ -207,8 +211,8 @@ fn replay_next<D: Disk>(
     match read_record(disk, walk.at, len, body)? {
         None => Ok(Next::End),
         Some(_) => {
-            if is_head(body, walk.at) {
-                return Ok(Next::Head);
+            if let Some(place) = head_in(body) {
+                return Ok(Next::Head(place));
             }
             let next = replay_body(alloc, index, body, walk)?;
             Ok(Next::Record(next))
@@ -216,22 +220,22 @@ fn replay_next<D: Disk>(
     }
 }
 
-/// Replays the records of a segment from a place on, on a disk of so many bytes, and says how far that goes, and whether
-/// the head stands there.
+/// Replays the records of a segment from a place on, on a disk of so many bytes, and says how far that goes, and which
+/// place a head names that stands there.
 pub(crate) fn replay<D: Disk>(
     alloc: Global,
     disk: &mut D,
     len: u64,
     index: &mut Plain,
     walk: Walk,
-) -> Result<(Walk, bool), StoreFault>
+) -> Result<(Walk, Option<u64>), StoreFault>
     requires well { IsWell index.old.state }
     requires ops { walk.ops ≤ walk.at }
     ensures replayed { IfOk result (λ r. (from : ℕ) (opening : Stage) (base : State) (bytes : List ℕ) → D.seen disk.old ≡ Some bytes → len ≡ length bytes
         → HasReplayed from opening base bytes walk index.old.state → Replayed from opening base bytes r.0 index.new.state r.1) }
     ensures damaged { (place : ℕ) → IsErrOf result (StoreFault.Damaged place) → (from : ℕ) (opening : Stage) (base : State) (bytes : List ℕ) → D.seen disk.old ≡ Some bytes → len ≡ length bytes
         → HasReplayed from opening base bytes walk index.old.state → IsDamagedRow IsBodyOrHead from opening place bytes }
-    ensures within { IfOk result (λ r. r.1 ≡ true → r.0.at + 14 < len) }
+    ensures within { IfOk result (λ r. IfSome r.1 (λ _. r.0.at + 14 < len)) }
     ensures well { OnOk result (IsWell index.new.state) }
     ensures exact { (p : DiskPlain) → D.plain disk.old ≡ Some p → reads_fine p ≡ true
         → (D.plain disk.new ≡ Some p) × (result ≢ Err StoreFault.Disk) }
@@ -248,8 +252,8 @@ pub(crate) fn replay<D: Disk>(
     'records: loop {
         match replay_next(alloc, disk, len, index, &mut body, walk)? {
             Next::Record(next) => walk = next,
-            Next::End => return Ok((walk, false)),
-            Next::Head => return Ok((walk, true)),
+            Next::End => return Ok((walk, None)),
+            Next::Head(place) => return Ok((walk, Some(place))),
         }
     }
 }

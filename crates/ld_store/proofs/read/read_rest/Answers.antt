@@ -16,14 +16,14 @@ returns-in_err-last-clause-damaged g c place is bytes told len there =
     let error = err_is c.from_residual.result (stores.Damaged place) (λ e. e ≡ c.in_err-last.field-0.0) c.from_residual.ensures.1 is in
     record { later = later; there = there; cause = inl (row_in later.gate later.version place bytes (c.in_err-last.ensures.damaged place (ap Err (sym error)) later.gate later.version i bytes told len begin)) }
 
-pub returns-then-is_headed-clause-damaged : goal.returns-then-is_headed-clause-damaged
-returns-then-is_headed-clause-damaged g c place is bytes told len there =
+pub returns-in-Some-clause-damaged : goal.returns-in-Some-clause-damaged
+returns-in-Some-clause-damaged g c place is bytes told len there =
     let later = c.args.later in
     let i = later.based.index.state in
     let begin = start later.gate later.version i bytes c.from.result (omega (arith, c.requires.within, len)) c.from.ensures in
     let last = c.in_ok-last.last in
-    let all = subst (λ b. Replayed later.gate later.version i bytes last c.replay.new.index.state b) c.if-is_headed.true (c.in_ok-last.ensures.replayed later.gate later.version i bytes told len begin) in
-    record { later = later; there = there; cause = inl (headed_in later.gate later.version i bytes last c.replay.new.index.state place (sym (same_place last.at place (error_of (stores.Damaged last.at) (stores.Damaged place) is))) all) }
+    let all = subst (λ h. Replayed later.gate later.version i bytes last c.replay.new.index.state h) c.in-Some.is (c.in_ok-last.ensures.replayed later.gate later.version i bytes told len begin) in
+    record { later = later; there = there; cause = inl (headed_in later.gate later.version i bytes last c.replay.new.index.state _ place (sym (same_place last.at place (error_of (stores.Damaged last.at) (stores.Damaged place) is))) all) }
 
 pub returns-then-not-stands_within-clause-damaged : goal.returns-then-not-stands_within-clause-damaged
 returns-then-not-stands_within-clause-damaged g c place is bytes told len there =
@@ -32,7 +32,7 @@ returns-then-not-stands_within-clause-damaged g c place is bytes told len there 
     let begin = start later.gate later.version i bytes c.from.result (omega (arith, c.requires.within, len)) c.from.ensures in
     let last = c.in_ok-last.last in
     let index = c.replay.new.index.state in
-    let all = subst (λ b. Replayed later.gate later.version i bytes last index b) c.if-is_headed.false (c.in_ok-last.ensures.replayed later.gate later.version i bytes told len begin) in
+    let all = subst (λ h. Replayed later.gate later.version i bytes last index h) c.in_default.is (c.in_ok-last.ensures.replayed later.gate later.version i bytes told len begin) in
     let past = subst (λ n. each_plain (within n) index ≡ index → ⊥) len (c.stands_within.ensures.past c.if-not-stands_within.true) in
     record {
       later = later;
@@ -40,17 +40,18 @@ returns-then-not-stands_within-clause-damaged g c place is bytes told len there 
       cause = inr (sym (same_place later.found.place place (error_of (stores.Damaged later.found.place) (stores.Damaged place) is)), inr (inr (payload_in later bytes last index all past)));
     }
 
-pub returns-in-Some-clause-read : goal.returns-in-Some-clause-read
-returns-in-Some-clause-read g c closed bytes told len first shut there =
+pub returns-in-Some-segment_behind-clause-read : goal.returns-in-Some-segment_behind-clause-read
+returns-in-Some-segment_behind-clause-read g c closed bytes told len first shut there =
     let later = c.args.later in
     let i = later.based.index.state in
     let begin = start later.gate later.version i bytes c.from.result (omega (arith, c.requires.within, len)) c.from.ensures in
     let last = c.in_ok-last.last in
     let index = c.replay.new.index.state in
-    let all = subst (λ b. Replayed later.gate later.version i bytes last index b) c.if-is_headed.false (c.in_ok-last.ensures.replayed later.gate later.version i bytes told len begin) in
+    let all = subst (λ h. Replayed later.gate later.version i bytes last index h) c.in_default.is (c.in_ok-last.ensures.replayed later.gate later.version i bytes told len begin) in
     record {
       walk = c.args.walk;
       closed = closed;
+      head = c.args.head;
       first = first;
       shut = shut;
       later = later;
@@ -59,8 +60,8 @@ returns-in-Some-clause-read g c closed bytes told len first shut there =
       rest = all;
       areas = (λ place size is. subst (λ n. place + size ≤ n) len (c.lie_within.ensures.within c.if-not-lie_within.false place size is));
       inside = subst (λ n. each_plain (within n) index ≡ index) len (c.stands_within.ensures.within c.if-not-stands_within.false);
-      segment = c.in-Some.segment;
-      segment_is = c.in-Some.ensures.some ∙ ap (λ n. record { place = later.found.place; based = n; ops = last.ops; end = last.at; limit = later.gate + 1 + room_for last.first; areas = later.based.areas; number = later.found.number }) c.entry_count-based.ensures;
+      segment = c.in-Some-segment_behind.segment;
+      segment_is = c.in-Some-segment_behind.ensures.some ∙ ap (λ n. record { place = later.found.place; based = n; ops = last.ops; end = last.at; limit = later.gate + 1 + room_for last.first; areas = later.based.areas; number = later.found.number }) c.entry_count-based.ensures;
       layout_is = c.laid_behind.ensures.layout;
       slots_are = c.laid_behind.ensures.slots;
       version_is = refl;
@@ -72,7 +73,7 @@ returns-in-None-clause-damaged g c place is bytes told len there =
     let i = later.based.index.state in
     let begin = start later.gate later.version i bytes c.from.result (omega (arith, c.requires.within, len)) c.from.ensures in
     let last = c.in_ok-last.last in
-    let all = subst (λ b. Replayed later.gate later.version i bytes last c.replay.new.index.state b) c.if-is_headed.false (c.in_ok-last.ensures.replayed later.gate later.version i bytes told len begin) in
+    let all = subst (λ h. Replayed later.gate later.version i bytes last c.replay.new.index.state h) c.in_default.is (c.in_ok-last.ensures.replayed later.gate later.version i bytes told len begin) in
     record {
       later = later;
       there = there;

@@ -17,4 +17,4 @@ returns-in-End-clause-replayed g c from opening base bytes told len has =
 pub returns-in-Head-clause-replayed : goal.returns-in-Head-clause-replayed
 returns-in-Head-clause-replayed g c from opening base bytes told len has =
     let now = c.records.invariant in
-    c.in_ok-next.ensures.head (ap Ok c.in-Head.is) from opening base bytes (now.2.bytes ∙ told) len (now.0 from opening base bytes told len has)
+    c.in_ok-next.ensures.head c.in-Head.place (ap Ok c.in-Head.is) from opening base bytes (now.2.bytes ∙ told) len (now.0 from opening base bytes told len has)
