@@ -185,11 +185,78 @@ fn what_a_head_names_is_damaged_or_not(rt: HostRuntime) -> Result<(), Fail> {
         fault_behind(alloc, 1_956, 9)?,
         Some(StoreFault::Damaged(1_951))
     );
-    // The head names another place.
+    Ok(())
+}
+
+#[test]
+fn a_head_that_names_another_place_is_damaged_only_there(rt: HostRuntime) -> Result<(), Fail> {
+    let alloc = rt.alloc();
+    // Within the first segment, where no slot is open.
     assert_eq!(rt;
         fault_behind(alloc, 1_915, 9)?,
-        Some(StoreFault::Damaged(1_902))
+        Some(StoreFault::Damaged(1_801))
     );
+    // Behind the disk's end.
+    assert_eq!(rt;
+        fault_behind(alloc, 1_912, 1)?,
+        Some(StoreFault::Damaged(16_779_133))
+    );
+    // Behind the limit.
+    assert_eq!(rt;
+        fault_behind(alloc, 1_908, 255)?,
+        Some(StoreFault::Damaged(18_374_686_479_671_625_597))
+    );
+    Ok(())
+}
+
+/// Writes the slots of a disk that was switched once to another place too, and has the head name that.
+fn move_slots(disk: &mut MemDisk, place: u64) -> Result<(), Fail>
+    requires { (2_000 ≤ place) × (place < 2 ^ 32) }
+{
+    let mut slots = [0; 34];
+    let count = disk.read(1_917, &mut slots)?;
+    disk.reserve(place + 34, 3)?;
+    disk.write_at(place, &slots[..count])?;
+    disk.write_at(1_908, &place.to_be_bytes())?;
+    disk.sync()?;
+    Ok(())
+}
+
+/// Has a store that accepted 64 entries accept the next 66; a second switch comes before the 128th.
+fn fill_on<D: Disk>(alloc: Global, store: &mut Store<D>) -> Result<(), StoreFault> {
+    for esn in 65..=130 {
+        accept_one(alloc, store, esn)?;
+    }
+    Ok(())
+}
+
+/// The byte of a disk at a place.
+fn byte_at(disk: &mut MemDisk, place: u64) -> Result<u8, Fail> {
+    let mut byte = [9];
+    let _ = disk.read(place, &mut byte)?;
+    Ok(byte[0])
+}
+
+/// The gates of the other slot, at a place and where it was before, once a store whose head names another place was
+/// loaded and switched again, and whether the next load has its last entry.
+fn gates_moved(alloc: Global, place: u64) -> Result<(u8, u8, bool), Fail>
+    requires { (2_000 ≤ place) × (place < 2 ^ 32) }
+{
+    let mut disk = filled(alloc, 64)?.into_disk();
+    move_slots(&mut disk, place)?;
+    let mut store = loaded(alloc, disk)?;
+    fill_on(alloc, &mut store)?;
+    let mut disk = store.into_disk();
+    let moved = byte_at(&mut disk, place + 17)?;
+    let before = byte_at(&mut disk, 1_934)?;
+    let again = loaded(alloc, disk)?;
+    Ok((moved, before, has(&again, 130)?))
+}
+
+#[test]
+fn slots_are_read_and_written_where_the_head_names_them(rt: HostRuntime) -> Result<(), Fail> {
+    // Behind the areas of both later segments.
+    assert_eq!(rt; gates_moved(rt.alloc(), 1_000_000)?, (1, 0, true));
     Ok(())
 }
 

@@ -52,17 +52,17 @@ impl<D: Disk> Store<D> {
     /// Opens the store on a disk, in one writing call: its records are replayed in one walk, or those behind the Base of
     /// its current segment, where there is a later one. A journal of the first version is then marked as one of the
     /// second, in four writing calls more, or in ten or eleven where its segment is full; that leaves the plain state as
-    /// it is. Where areas of a Base share bytes, or don't hold its payloads, it is read as it stands, and nothing is
-    /// promised of it.
+    /// it is. Where areas of a Base share bytes, or don't hold its payloads, or the head names another place than the one
+    /// behind it, it is read as it stands, the slots at the place that is named, and nothing is promised of it.
     ///
     /// A refusal hands the disk back: `Disk` where a call of it failed; `Damaged(place)` where the record whose gate is
     /// at that place is cut short, or its body is none that may stand there (the first is a format, and no other is; a
     /// mark stands in a journal of the first version only, and once; of the ops that the versions write in two ways each
     /// stands in its own), where the gate at that place, behind the head, is open, where none of the slots at that place
-    /// counts, or the disk ends within the one there, where no Base stands at that place that they name, or its segment
-    /// passes 2^40 bytes, or an older area of it ends past the disk's end, or a payload does that no record behind it
-    /// drops, or the disk has no byte at all; `Full` where a mark, or the segment that it needs, would pass 2^40 bytes;
-    /// and `NoMemory`.
+    /// counts, or they pass 2^40 bytes, or the disk ends within the one there, where no Base stands at that place that they
+    /// name, or its segment passes 2^40 bytes, or an older area of it ends past the disk's end, or a payload does that no
+    /// record behind it drops, or the disk has no byte at all; `Full` where a mark, or the segment that it needs, would pass
+    /// 2^40 bytes; and `NoMemory`.
     pub fn load(alloc: Global, disk: D) -> Result<Store<D>, (D, StoreFault)>
         ensures opens { IfOk result (λ store. IfSome (D.seen disk) (IsOpened D.seen D.may_leave store)) }
         ensures works { IfOk result (λ store. must_load store ≡ false) }
