@@ -1,5 +1,5 @@
 -- What a swap makes of a set, and of what is fixed for the epochs of a log.
-use Rattle.std.proofs.Common.{◌≡◌, ◌≢◌, ◌≤◌, ◌<◌, ◌+◌, ◌-◌, ◌&&◌, ◌==◌, inl, inr, ℕ, zero, suc, min, Bool, true, false, not, cond, List, [], ◌∷◌, Option, Some, None, option_map, Less, refl, ap, sym, ◌∙◌, subst, arith, nat_cmp, nat_lt, nat_le, length, set, get_or, if◌then◌else◌}
+use Rattle.std.proofs.Common.{◌≡◌, ◌≢◌, ◌≤◌, ◌<◌, ◌+◌, ◌-◌, ◌&&◌, inl, inr, ℕ, zero, suc, min, Bool, true, false, not, cond, List, [], ◌∷◌, Option, Some, None, option_map, Less, refl, ap, sym, ◌∙◌, subst, arith, nat_cmp, nat_lt, nat_le, length, set, get_or, if◌then◌else◌}
 use Rattle.std.specs.Map as map
 use Rattle.std.specs.BTreeMap.{is_at}
 use Rattle.std.specs.List.{AllByRecursion}
@@ -7,13 +7,13 @@ use Rattle.std.specs.List.Sorted.{IsStrictlySortedBy}
 use Rattle.std.proofs.lemmas.Bool.{cases_eq}
 use Rattle.std.proofs.lemmas.Bool.Decides.{nat_tests}
 use Rattle.std.proofs.lemmas.List.{length-set}
-use Rattle.ld_table.specs.Table.{find, put, keep_keys, Ordered}
+use Rattle.ld_table.specs.Table.{find, keep_keys, Ordered}
 use Rattle.ld_table.proofs.Laws.{same_key, put_cases, find-map_values}
 use Rattle.ld_table.proofs.Order.{Ordered-put, same_table}
 use Rattle.ld_ids.specs.Id.{IsNode}
 use Rattle.ld_ids.specs.Set.{members, members_from, has_node, with_node, without_node, IsSet}
 use Rattle.ld_ids.specs.declared.set.Spec.{Spec}
-use Rattle.ld_msg.specs.Register.{swaps_in, swapped_set, swapped_spec, swapped_specs, swap_count}
+use Rattle.ld_msg.specs.Register.{swaps_in, swapped_spec, swapped_specs, swap_count}
 use Rattle.ld_register.specs.declared.fixed.Fixed.{Fixed}
 use Rattle.ld_register.specs.Bounds.{IsSpec, IsSpecFor}
 use Rattle.ld_register.specs.Kept.{is_up_to, fixed_in, swapped_in, swapped_fixed, swapped_up_to, swaps_up_to, swapped_where, swaps_where}

@@ -1,15 +1,15 @@
 // What a register holds, kept in memory.
-ghost use Rattle.std.specs.Prelude.{◌≡◌, ◌≤◌, ◌<◌, ◌+◌, ◌-◌, ◌^◌, ◌++◌, ◌∷◌, [], ℕ, length, true, not, ◌==◌, ◌&&◌, nat_lt, nat_le, IfOk, OnOk, IfSome, IsSome, is_some, ◌↔◌};
+ghost use Rattle.std.specs.Prelude.{◌≡◌, ◌≤◌, ◌<◌, ◌+◌, ◌-◌, ◌^◌, ◌++◌, ◌∷◌, [], ℕ, length, true, not, ◌==◌, ◌&&◌, nat_lt, IfOk, OnOk, IfSome, IsSome, is_some, ◌↔◌};
 ghost use Rattle.ld_table.specs.Table.{find, put};
 ghost use Rattle.ld_table.specs.Words.{how_many};
 ghost use Rattle.ld_ids.specs.Id.{IsLog};
 ghost use Rattle.ld_msg.specs.Bounds.{IsSummary};
-ghost use Rattle.ld_msg.specs.Register.{record_length, log_limit, swap_limit, next_epoch, closed_epochs, swapped_epochs, swappable, swap_count, closed_upto, epochs_in, epochs_of, generation_of, summary_shown, is_crowded};
+ghost use Rattle.ld_msg.specs.Register.{record_length, swap_limit, next_epoch, closed_epochs, swapped_epochs, swappable, swap_count, closed_upto, epochs_in, epochs_of, generation_of, summary_shown, is_crowded};
 ghost use Rattle.ld_op.specs.Bounds.{AreEpochs};
 ghost use Rattle.ld_register.specs.Bounds.{IsSpec, IsSpecFor};
 ghost use Rattle.ld_register.specs.Calls.{spec_told};
 ghost use Rattle.ld_register.specs.Changes.{IsChange, is_next, changed, body_length, unfixed_epoch};
-ghost use Rattle.ld_register.specs.Kept.{Kept, register_of, has_room, shown_log, shown_logs, shown_generations, is_held, log_at, AreLogs};
+ghost use Rattle.ld_register.specs.Kept.{Kept, register_of, has_room, shown_logs, shown_generations, is_held, log_at, AreLogs};
 
 use crate::change::Change;
 use crate::log::LogState;

@@ -1,5 +1,5 @@
 // How the changes of a journal are replayed.
-ghost use Rattle.std.specs.Prelude.{◌≡◌, ◌≢◌, ◌⊎◌, ◌<◌, ◌≤◌, ◌+◌, ◌++◌, ◌∷◌, [], List, ℕ, length, IfErr, OnOk, OnErr, IsErrOf, Ok, Err, Some, true, false};
+ghost use Rattle.std.specs.Prelude.{◌≡◌, ◌≢◌, ◌⊎◌, ◌<◌, ◌≤◌, [], List, ℕ, length, IfErr, OnOk, OnErr, IsErrOf, Ok, Err, Some, true, false};
 ghost use Rattle.ld_io.specs.Causes.{Rose};
 ghost use Rattle.ld_disk.specs.Moments.{Unchanged};
 ghost use Rattle.ld_disk.specs.Plain.{Plain as DiskPlain, reads_fine};

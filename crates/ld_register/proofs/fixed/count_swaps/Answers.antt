@@ -1,4 +1,4 @@
-use Rattle.std.proofs.Common.{◌≡◌, ◌∙◌, ◌+◌, ◌-◌, ap, sym, arith, refl, true, false}
+use Rattle.std.proofs.Common.{◌≡◌, ◌∙◌, ◌+◌, ap, sym, arith, refl, true, false}
 use Rattle.std.specs.Prelude.{Bool}
 use Rattle.ld_register.specs.Kept.{swaps_up_to}
 use Rattle.ld_register.proofs.Swapping.{none_counted, counted_more, one_if, one_most}

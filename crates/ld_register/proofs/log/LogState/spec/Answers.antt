@@ -1,7 +1,7 @@
 use Rattle.std.proofs.Common.{◌≡◌, ◌∙◌, ap, sym, inl, arith, Some, None, option_map, rules}
 use Rattle.ld_table.specs.Table.{find}
 use Rattle.ld_table.proofs.Laws.{find-map_values}
-use Rattle.ld_register.specs.Kept.{shown_log, swapped_in}
+use Rattle.ld_register.specs.Kept.{shown_log}
 use Rattle.ld_register.proofs.Logs.{not_shown, is_shown}
 use Rattle.ld_register.proofs.log.LogState.spec.Goals as goal
 
