@@ -1,5 +1,5 @@
 -- Whether records stand in a journal, by its version.
-use Rattle.std.proofs.Common.{◌≡◌, ⊎_elim, ◌+◌, ◌==◌, ℕ, List, [], ◌∷◌, ◌++◌, Option, Some, None, Bool, true, false, cond, refl, sym, ◌∙◌, ap, subst, arith}
+use Rattle.std.proofs.Common.{◌≡◌, ⊎_elim, ◌==◌, ℕ, List, [], ◌∷◌, ◌++◌, Option, Some, None, Bool, true, false, cond, refl, sym, ◌∙◌, ap, subst, arith}
 use Rattle.std.proofs.lemmas.Bool.Decides.{nat_tests}
 use Rattle.ld_journal.specs.Format.{framed, records, IsJournal}
 use Rattle.ld_journal.proofs.Reading.{one_reading}

@@ -5,16 +5,14 @@ use Rattle.ld_journal.specs.Format.{framed, IsJournal, Fits}
 use Rattle.ld_journal.specs.Rest.{IsShut}
 use Rattle.ld_journal.proofs.Reading.{behind_them, not_both}
 use Rattle.ld_journal.proofs.Records.{records-push, fits-push}
-use Rattle.ld_msg.specs.Register.{record_length}
 use Rattle.ld_op.specs.declared.record.Record.{Record}
 use Rattle.ld_op.specs.declared.version.Version.{Version}
 use Rattle.ld_op.specs.declared.version.Version.TheVariants.{Blank}
-use Rattle.ld_op.specs.Records.{body_length}
 use Rattle.ld_op.specs.Bytes.{record_bytes}
 use Rattle.ld_layout.specs.Areas.{AreLive}
 use Rattle.ld_layout.specs.Layout.{Layout, Segment, IfSegment, head_end, live_areas}
 use Rattle.ld_segment.specs.Slots.{head_bytes}
-use Rattle.ld_segment.specs.Ops.{bodies_of, place_behind, next_version, version_on, AreRecords, ArePlaced}
+use Rattle.ld_segment.specs.Ops.{bodies_of, next_version, version_on, AreRecords, ArePlaced}
 use Rattle.ld_segment.specs.Lies.{Slots, LiesAs, IsSound, IfBounded, head_of}
 use Rattle.ld_segment.proofs.Bodies.{same_record, same_version, records_fit}
 use Rattle.ld_segment.proofs.Readings.{no_head}

@@ -15,7 +15,7 @@ use Rattle.ld_layout.specs.Layout.{Layout, Segment, IfSegment, room_for, head_en
 use Rattle.ld_segment.specs.Slots.{head_bytes}
 use Rattle.ld_segment.specs.Later.{IsThere, IsDamagedBehind, IsReadAs}
 use Rattle.ld_segment.specs.declared.later.Later.{Later}
-use Rattle.ld_segment.specs.Ops.{bodies_of, place_behind, indexed, ArePlaced}
+use Rattle.ld_segment.specs.Ops.{bodies_of, indexed, ArePlaced}
 use Rattle.ld_segment.specs.Lies.{Slots, LiesAs, IsSound, IsIndexed, IsLater, IfBounded, StandsFor, head_of, first_length}
 use Rattle.ld_segment.proofs.Readings.{no_head, same_records}
 use Rattle.ld_segment.proofs.ReadLater.{not_refused}
