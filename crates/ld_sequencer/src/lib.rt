@@ -14,11 +14,7 @@ mod round;
 mod row;
 mod spent;
 mod start;
-#[cfg(test)]
-mod tests;
 mod whole;
-#[cfg(test)]
-mod whole_tests;
 
 pub use fault::{CloseFault, SequencerFault};
 pub use origin::Origin;
@@ -26,3 +22,12 @@ pub use own::{Learnt, OwnEpoch};
 pub use report::Report;
 pub use row::Row;
 pub use whole::Sequencer;
+
+#[cfg(test)]
+mod samples;
+#[cfg(test)]
+mod steps;
+#[cfg(test)]
+mod tests;
+#[cfg(test)]
+mod whole_tests;

@@ -1,8 +1,9 @@
 // A sequencer's own epoch against answers as nodes give them.
 ghost use Rattle.std.specs.Prelude.{◌≡◌};
 
+use crate::samples::{one_byte, set_of};
 use crate::{Learnt, Origin, OwnEpoch, SequencerFault};
-use ld_ids::{LogId, NoMemory, NodeId, NodeSet, Payload, Spec};
+use ld_ids::{LogId, NoMemory, NodeId, Spec};
 use ld_lsn::Lsn;
 use ld_msg::{Body, Msg, Outbox, Who};
 use std::alloc::Global;
@@ -12,12 +13,7 @@ use std::test::Fail;
 fn three_nodes(log: LogId) -> Spec
     ensures { result.r ≡ 2 }
 {
-    let mut set = NodeSet::empty();
-    for number in [1, 2, 3] {
-        if let Some(node) = NodeId::new(number) {
-            set = set.with(node);
-        }
-    }
+    let set = set_of(&[1, 2, 3]);
     Spec {
         log,
         set,
@@ -29,10 +25,7 @@ fn three_nodes(log: LogId) -> Spec
 // The sequencer of epoch 3 of that log, with four nodes in its configuration, that knows this epoch as the last closed one.
 fn starts(alloc: Global, log: LogId, lce: u32) -> Result<OwnEpoch, NoMemory> {
     let spec = three_nodes(log);
-    let mut nodes = spec.set;
-    if let Some(node) = NodeId::new(4) {
-        nodes = nodes.with(node);
-    }
+    let nodes = set_of(&[1, 2, 3, 4]);
     let origin = Origin { nodes, first: spec };
     OwnEpoch::new(alloc, &origin, &spec, 3, lce)
 }
@@ -60,10 +53,6 @@ fn stored(log: LogId, node: u8, epoch: u32, esn: u32) -> Msg {
 // One byte is appended.
 fn appends(alloc: Global, own: &mut OwnEpoch, out: &mut Outbox) -> Result<Lsn, SequencerFault> {
     own.append(alloc, one_byte(alloc)?, out)
-}
-
-fn one_byte(alloc: Global) -> Result<Payload, NoMemory> {
-    Ok(Payload::new(Vec::from_elem(alloc, 7, 1)?))
 }
 
 // A message comes.

@@ -1,5 +1,5 @@
 use Rattle.std.proofs.Common.{arith}
-use Rattle.ld_sequencer.proofs.whole_tests.closed.Goals as goal
+use Rattle.ld_sequencer.proofs.steps.closed.Goals as goal
 
 pub returns : goal.returns
 returns c = λ n h.
