@@ -9,12 +9,18 @@ mod keep;
 mod known;
 mod msgs;
 mod node;
+mod register;
 mod replace;
 mod settled;
-#[cfg(test)]
-mod tests;
 mod tick;
 
 pub use fault::NodeFault;
 pub use node::Node;
 pub use tick::Ticked;
+
+#[cfg(test)]
+mod register_tests;
+#[cfg(test)]
+mod samples;
+#[cfg(test)]
+mod tests;

@@ -1,5 +1,5 @@
 // What a node keeps and answers, once the payloads that it has to read are read.
-ghost use Rattle.std.specs.Prelude.{◌≡◌, ◌≢◌, ◌⊎◌, ◌↔◌, ◌≤◌, ℕ, List, [], length, map, IfOk, IfSome, IfNone, OnOk, OnErr, IsErrOf, Err, Some, None, true, false, Option};
+ghost use Rattle.std.specs.Prelude.{◌≡◌, ◌≢◌, ◌⊎◌, ◌↔◌, ◌≤◌, ℕ, [], length, map, IfOk, IfSome, IfNone, OnOk, OnErr, IsErrOf, Err, Some, None, true, false, Option};
 ghost use Rattle.std.specs.Option.{option_map};
 ghost use Rattle.ld_table.specs.Words.{numbers_from};
 ghost use Rattle.ld_io.specs.Causes.{Rose};

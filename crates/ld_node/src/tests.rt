@@ -1,120 +1,16 @@
-// A node on a disk in memory, beside a register on another one.
-ghost use Rattle.std.specs.Prelude.{◌≡◌, ◌≤◌, IfOk};
-ghost use Rattle.ld_msg.specs.Bounds.{IsMessage, IsSummary, Fits};
+// A node on a disk in memory: what it answers to messages, and what is there after a load.
+ghost use Rattle.std.specs.Prelude.{IfOk};
+ghost use Rattle.ld_msg.specs.Bounds.{IsMessage, Fits};
 ghost use Rattle.ld_msg.specs.declared.msg.Who.TheVariants as whos;
-ghost use Rattle.ld_register.specs.Bounds.{IsSpec};
 
-use crate::{Node, NodeFault, Ticked};
-use ld_config::{Config, Specs};
-use ld_disk::{Disk, Fault, MemDisk};
-use ld_ids::{LogId, NoMemory, NodeId, NodeSet, Payload, Spec};
+use crate::samples::{formatted, loaded, log_of, node_of, older_disk};
+use crate::{Node, NodeFault};
+use ld_disk::{Disk, Fault};
+use ld_ids::{NoMemory, Payload};
 use ld_lsn::Lsn;
-use ld_msg::{Body, Msg, Summary, What, Who};
-use ld_register::{DiskRegister, Register, RegisterFault};
+use ld_msg::{Body, Msg, What, Who};
 use std::alloc::Global;
 use std::test::Fail;
-
-fn log_of(number: u32) -> Result<LogId, NoMemory>
-    ensures { IfOk result (λ log. log ≡ number) }
-{
-    match LogId::new(number) {
-        Some(log) => Ok(log),
-        None => Err(NoMemory),
-    }
-}
-
-fn node_of(number: u8) -> Result<NodeId, NoMemory>
-    ensures { IfOk result (λ node. node ≡ number) }
-{
-    match NodeId::new(number) {
-        Some(node) => Ok(node),
-        None => Err(NoMemory),
-    }
-}
-
-fn new_disk(alloc: Global) -> Result<MemDisk, NoMemory> {
-    match MemDisk::new(alloc) {
-        Ok(disk) => Ok(disk),
-        Err(_) => Err(NoMemory),
-    }
-}
-
-fn new_register(alloc: Global) -> Result<DiskRegister<MemDisk>, NoMemory> {
-    Ok(DiskRegister::new(alloc, new_disk(alloc)?))
-}
-
-/// Log 1 on node 2 alone.
-fn spec() -> Result<Spec, NoMemory>
-    ensures { IfOk result IsSpec }
-{
-    let log = log_of(1)?;
-    let set = NodeSet::empty().with(node_of(2)?);
-    if set.len() == 0 || log.number() == 0 {
-        return Err(NoMemory);
-    }
-    Ok(Spec {
-        log,
-        set,
-        r: 1,
-        extras: 0,
-    })
-}
-
-/// Three nodes and log 1.
-fn config(alloc: Global) -> Result<Config, NoMemory> {
-    let nodes = NodeSet::empty()
-        .with(node_of(1)?)
-        .with(node_of(2)?)
-        .with(node_of(3)?);
-    let mut logs = Specs::new(alloc);
-    logs.push(spec()?)?;
-    Ok(Config { nodes, logs })
-}
-
-/// Node 1 on a disk.
-fn loaded(alloc: Global, disk: MemDisk) -> Result<Node<MemDisk>, NodeFault> {
-    let config = config(alloc)?;
-    match Node::load(alloc, node_of(1)?, disk, &config) {
-        Ok(node) => Ok(node),
-        Err((_disk, fault)) => Err(fault),
-    }
-}
-
-/// A disk with the format under generation 1, as the first version of journals wrote it.
-fn older_disk(alloc: Global) -> Result<MemDisk, Fail> {
-    let bytes = [1, 0, 0, 0, 6, 1, 0, 0, 0, 1, 0, 0];
-    let mut disk = new_disk(alloc)?;
-    disk.reserve(bytes.len() as u64, 2)?;
-    disk.write_at(0, &bytes)?;
-    disk.sync()?;
-    Ok(disk)
-}
-
-/// The generation under which a blank node is formatted.
-fn drawn<D: Disk, R: Register>(
-    alloc: Global,
-    node: &mut Node<D>,
-    reg: &mut R,
-) -> Result<u32, NodeFault> {
-    if !node.is_blank() {
-        return Err(NodeFault::Full);
-    }
-    let drawn = node.format(alloc, reg)?;
-    Ok(drawn.gen_)
-}
-
-/// Node 1, formatted by this register.
-fn formatted_by<R: Register>(alloc: Global, reg: &mut R) -> Result<Node<MemDisk>, NodeFault> {
-    let mut node = loaded(alloc, new_disk(alloc)?)?;
-    let _ = drawn(alloc, &mut node, reg)?;
-    Ok(node)
-}
-
-/// Node 1, formatted by a register of its own.
-fn formatted(alloc: Global) -> Result<Node<MemDisk>, NodeFault> {
-    let mut reg = new_register(alloc)?;
-    formatted_by(alloc, &mut reg)
-}
 
 /// A message of log 1 to node 1.
 fn to_node(from: Who, body: Body) -> Result<Msg, NoMemory>
@@ -175,7 +71,7 @@ fn digest_ask() -> Result<Msg, NoMemory>
 
 /// What a node answers: a page with how many entries, and up to which place all is known good.
 #[derive(Clone, Copy, Debug, PartialEq, Eq)]
-enum Answer {
+pub(crate) enum Answer {
     Stored,
     SealedUnder(u32),
     PageOf(usize, u32),
@@ -226,7 +122,7 @@ fn give<D: Disk>(alloc: Global, node: &mut Node<D>, msg: &Msg) -> Result<Answer,
     }
 }
 
-fn give_store<D: Disk>(alloc: Global, node: &mut Node<D>) -> Result<Answer, NodeFault> {
+pub(crate) fn give_store<D: Disk>(alloc: Global, node: &mut Node<D>) -> Result<Answer, NodeFault> {
     give(alloc, node, &store(alloc, 9)?)
 }
 
@@ -253,86 +149,6 @@ fn digest_byte<D: Disk>(alloc: Global, node: &mut Node<D>) -> Result<u8, NodeFau
         [one] => Ok(byte_in(&one.body)),
         _ => Ok(0),
     }
-}
-
-/// Which epoch a tick of the log cleaned, 0 where it did nothing.
-fn cleaned<D: Disk, R: Register>(
-    alloc: Global,
-    node: &mut Node<D>,
-    log: u32,
-    reg: &mut R,
-) -> Result<u32, NodeFault> {
-    if node.is_blank() {
-        return Err(NodeFault::Full);
-    }
-    match &node.tick(alloc, log_of(log)?, reg)? {
-        Ticked::Cleaned(epoch) => Ok(*epoch),
-        Ticked::Nothing => Ok(0),
-        _ => Err(NodeFault::Full),
-    }
-}
-
-/// How many nodes a tick of log 1 asks for what is missing.
-fn asked<D: Disk, R: Register>(
-    alloc: Global,
-    node: &mut Node<D>,
-    reg: &mut R,
-) -> Result<usize, NodeFault> {
-    if node.is_blank() {
-        return Err(NodeFault::Full);
-    }
-    match &node.tick(alloc, log_of(1)?, reg)? {
-        Ticked::Asked(asks) => Ok(asks.len()),
-        _ => Ok(0),
-    }
-}
-
-/// Whether a tick of log 1 finds that all that was lost is there again.
-fn rebuilt<D: Disk, R: Register>(
-    alloc: Global,
-    node: &mut Node<D>,
-    reg: &mut R,
-) -> Result<bool, NodeFault> {
-    if node.is_blank() {
-        return Err(NodeFault::Full);
-    }
-    Ok(matches!(&node.tick(alloc, log_of(1)?, reg)?, Ticked::Rebuilt))
-}
-
-/// In how many epochs of log 1 a node takes the place of node 2.
-fn replaced<D: Disk, R: Register>(
-    alloc: Global,
-    node: &Node<D>,
-    reg: &mut R,
-) -> Result<u32, NodeFault> {
-    node.replace(alloc, log_of(1)?, node_of(2)?, reg)
-}
-
-fn summary_to(end: u32) -> Summary
-    requires { 1 ≤ end }
-    ensures { IsSummary 1 result }
-{
-    Summary {
-        ballot: 2,
-        lng: 0,
-        trim: Lsn::from_u64(0),
-        end,
-        loss: false,
-    }
-}
-
-/// Hands out epoch 1 of log 1, and closes it behind its place 1.
-fn close<R: Register>(alloc: Global, reg: &mut R) -> Result<(), RegisterFault> {
-    let _ = reg.activate(alloc, &spec()?)?;
-    let _ = reg.close(alloc, log_of(1)?, 1, &summary_to(2), false)?;
-    Ok(())
-}
-
-/// Hands out epoch 1 of log 1, and closes it with nothing in it.
-fn close_empty<R: Register>(alloc: Global, reg: &mut R) -> Result<(), RegisterFault> {
-    let _ = reg.activate(alloc, &spec()?)?;
-    let _ = reg.close(alloc, log_of(1)?, 1, &summary_to(1), false)?;
-    Ok(())
 }
 
 #[test]
@@ -439,82 +255,5 @@ fn a_seal_is_there_after_a_load(rt: HostRuntime) -> Result<(), Fail> {
     assert_eq!(rt; give_digest_ask(alloc, &mut node), Ok(Answer::PageOf(0, 0)));
     let mut again = loaded(alloc, node.into_disk())?;
     assert_eq!(rt; give_store(alloc, &mut again), Ok(Answer::SealedUnder(2)));
-    Ok(())
-}
-
-#[test]
-fn a_tick_cleans_what_is_closed(rt: HostRuntime) -> Result<(), Fail> {
-    let alloc = rt.alloc();
-    let mut reg = new_register(alloc)?;
-    let mut node = formatted(alloc)?;
-    assert_eq!(rt; cleaned(alloc, &mut node, 1, &mut reg), Ok(0));
-    close(alloc, &mut reg)?;
-    assert_eq!(rt; cleaned(alloc, &mut node, 1, &mut reg), Ok(1));
-    Ok(())
-}
-
-#[test]
-fn a_lost_node_asks_all_others(rt: HostRuntime) -> Result<(), Fail> {
-    let alloc = rt.alloc();
-    let mut reg = new_register(alloc)?;
-    close(alloc, &mut reg)?;
-    let mut node = formatted_by(alloc, &mut reg)?;
-    assert_eq!(rt; cleaned(alloc, &mut node, 1, &mut reg), Ok(1));
-    assert_eq!(rt; asked(alloc, &mut node, &mut reg), Ok(2));
-    Ok(())
-}
-
-#[test]
-fn a_node_takes_a_place_once_it_is_rebuilt(rt: HostRuntime) -> Result<(), Fail> {
-    let alloc = rt.alloc();
-    let mut reg = new_register(alloc)?;
-    close_empty(alloc, &mut reg)?;
-    let mut node = formatted_by(alloc, &mut reg)?;
-    assert_eq!(rt; cleaned(alloc, &mut node, 1, &mut reg), Ok(1));
-    assert_eq!(rt; replaced(alloc, &node, &mut reg), Ok(0));
-    assert_eq!(rt; rebuilt(alloc, &mut node, &mut reg), Ok(true));
-    assert_eq!(rt; replaced(alloc, &node, &mut reg), Ok(1));
-    assert_eq!(rt; replaced(alloc, &node, &mut reg), Ok(0));
-    Ok(())
-}
-
-#[test]
-fn a_tick_looks_only_for_known_logs(rt: HostRuntime) -> Result<(), Fail> {
-    let alloc = rt.alloc();
-    let mut node = formatted(alloc)?;
-    let mut reg = new_register(alloc)?;
-    reg.arm(Fault::FailAt(1));
-    assert_eq!(rt; cleaned(alloc, &mut node, 2, &mut reg), Ok(0));
-    assert_eq!(rt;
-        cleaned(alloc, &mut node, 1, &mut reg),
-        Err(NodeFault::Register(RegisterFault::Failed))
-    );
-    Ok(())
-}
-
-#[test]
-fn a_node_whose_disk_failed_has_to_be_loaded_again(rt: HostRuntime) -> Result<(), Fail> {
-    let alloc = rt.alloc();
-    let mut reg = new_register(alloc)?;
-    let mut node = formatted(alloc)?;
-    node.arm(Fault::FailAt(2));
-    assert_eq!(rt; give_store(alloc, &mut node), Err(NodeFault::Disk));
-    assert_eq!(rt; give_store(alloc, &mut node), Err(NodeFault::NeedsLoad));
-    assert_eq!(rt;
-        cleaned(alloc, &mut node, 1, &mut reg),
-        Err(NodeFault::NeedsLoad)
-    );
-    Ok(())
-}
-
-#[test]
-fn a_format_that_fails_has_drawn(rt: HostRuntime) -> Result<(), Fail> {
-    let alloc = rt.alloc();
-    let mut reg = new_register(alloc)?;
-    let mut node = loaded(alloc, new_disk(alloc)?)?;
-    node.arm(Fault::FailAt(1));
-    assert_eq!(rt; drawn(alloc, &mut node, &mut reg), Err(NodeFault::Disk));
-    let mut again = loaded(alloc, node.into_disk())?;
-    assert_eq!(rt; drawn(alloc, &mut again, &mut reg), Ok(2));
     Ok(())
 }
