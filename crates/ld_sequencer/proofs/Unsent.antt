@@ -1,9 +1,9 @@
 -- What is sent is sent behind what was there, whether a call is refused or not.
-use Rattle.std.proofs.Common.{◌≡◌, ◌≢◌, ◌⊎◌, ◌++◌, ℕ, List, [], true, false, Ok, Err, IfOk, IfErr, IsErrOf, refl, sym, ◌∙◌, ap, subst, inl, inr}
+use Rattle.std.proofs.Common.{◌≡◌, ◌≢◌, ◌⊎◌, ◌++◌, List, [], true, false, Ok, Err, IfOk, IfErr, IsErrOf, refl, sym, ◌∙◌, ap, subst, inl, inr}
 use Rattle.std.specs.declared.result.Result.{Result}
 use Rattle.ld_ids.specs.declared.set.Spec.{Spec}
 use Rattle.ld_msg.specs.declared.msg.Msg.{Msg}
-use Rattle.ld_msg.specs.Register.{Answer, View}
+use Rattle.ld_msg.specs.Register.{Answer}
 use Rattle.ld_msg.specs.Sequencer.{Acts}
 use Rattle.ld_recovery.specs.Sending.{BeginsWith}
 use Rattle.ld_recovery.proofs.Begins.{begins_itself}
@@ -12,7 +12,7 @@ use Rattle.ld_sequencer.specs.declared.report.Report.{Report}
 use Rattle.ld_sequencer.specs.declared.fault.SequencerFault.{SequencerFault}
 use Rattle.ld_sequencer.specs.declared.fault.SequencerFault.TheVariants as faults
 use Rattle.ld_sequencer.specs.Looks.{shows}
-use Rattle.ld_sequencer.specs.Whole.{Whole, Acted, ActedBy, IsUntimely, IsRefused, Unlooked, lacks_memory, due_acts, recovery_acts, tried}
+use Rattle.ld_sequencer.specs.Whole.{Whole, Acted, ActedBy, IsUntimely, IsRefused, lacks_memory, due_acts, recovery_acts, tried}
 use Rattle.ld_sequencer.proofs.Begins.{begins_more}
 use Rattle.ld_sequencer.proofs.Retrying.{RecoveryRefused}
 

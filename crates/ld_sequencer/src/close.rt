@@ -1,5 +1,5 @@
 // The close of an epoch in the register.
-ghost use Rattle.std.specs.Prelude.{◌≡◌, ◌⊎◌, ◌≤◌, ◌-◌, Some, true, false, IfOk, IfErr, OnErr};
+ghost use Rattle.std.specs.Prelude.{◌≡◌, ◌⊎◌, ◌≤◌, Some, true, false, IfOk, IfErr, OnErr};
 ghost use Rattle.ld_io.specs.Causes.{Rose};
 ghost use Rattle.ld_node_bounds.specs.Messages.{AreMessages};
 ghost use Rattle.ld_msg.specs.Bounds.{IsSummary};

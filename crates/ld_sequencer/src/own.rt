@@ -1,5 +1,5 @@
 // What a sequencer does for its own epoch.
-ghost use Rattle.std.specs.Prelude.{◌≡◌, ◌≤◌, ◌<◌, ◌+◌, ◌-◌, ◌^◌, ◌++◌, ◌&&◌, ◌==◌, ℕ, length, take, IfOk, IfErr, OnOk, OnErr, None, is_some, nat_lt, if◌then◌else◌};
+ghost use Rattle.std.specs.Prelude.{◌≡◌, ◌≤◌, ◌<◌, ◌+◌, ◌-◌, ◌^◌, ◌++◌, ◌&&◌, ◌==◌, length, take, IfOk, IfErr, OnOk, OnErr, None, is_some, nat_lt, if◌then◌else◌};
 ghost use Rattle.ld_ids.specs.Set.{members};
 ghost use Rattle.ld_lsn.specs.Number.{numbered};
 ghost use Rattle.ld_msg.specs.declared.msg.Body.TheVariants.{Trim};

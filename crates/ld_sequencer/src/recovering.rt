@@ -1,9 +1,8 @@
 // What a sequencer does for the recovery of earlier epochs.
-ghost use Rattle.std.specs.Prelude.{◌≡◌, ◌≢◌, ◌⊎◌, ◌≤◌, ◌+◌, ◌-◌, ◌^◌, ◌++◌, ◌==◌, ◌&&◌, [], ℕ, List, true, false, is_some, nat_lt, if◌then◌else◌, take, None, Some, Ok, IfOk, IfErr, IfSome, OnOk, OnErr, IsErrOf};
+ghost use Rattle.std.specs.Prelude.{◌≡◌, ◌≢◌, ◌⊎◌, ◌≤◌, ◌+◌, ◌-◌, ◌^◌, ◌++◌, ◌==◌, ◌&&◌, [], ℕ, List, true, false, is_some, if◌then◌else◌, take, None, Some, Ok, IfOk, IfErr, IfSome, OnOk, OnErr, IsErrOf};
 ghost use Rattle.ld_io.specs.Causes.{Rose};
 ghost use Rattle.ld_ids.specs.declared.set.Spec.{Spec as Fixed};
 ghost use Rattle.ld_node_bounds.specs.Messages.{AreMessages};
-ghost use Rattle.ld_lsn.specs.Number.{home_epoch};
 ghost use Rattle.ld_msg.specs.Bounds.{IsMessage, IsSummary};
 ghost use Rattle.ld_msg.specs.declared.msg.Msg.{Msg as Sent};
 ghost use Rattle.ld_msg.specs.Register.{Register as Contents, Answer as Ends, View, Granted, Behind, is_crowded};

@@ -1,5 +1,5 @@
 // The appends that wait.
-ghost use Rattle.std.specs.Prelude.{◌≡◌, ◌<◌, ◌≤◌, ◌+◌, ◌-◌, ◌^◌, ℕ, length, ◌∷◌, [], ◌++◌, List, map, drop, set, slice_get, Some, None, IfSome, IfNone, IfOk, OnOk, OnErr};
+ghost use Rattle.std.specs.Prelude.{◌≡◌, ◌<◌, ◌≤◌, ◌+◌, ◌-◌, ◌^◌, ℕ, length, ◌++◌, map, drop, set, slice_get, Some, None, IfSome, IfNone, IfOk, OnOk, OnErr};
 ghost use Rattle.ld_table.specs.Table.{find};
 ghost use Rattle.ld_msg.specs.declared.msg.Who.TheVariants.{Sequencer as of_sequencer};
 ghost use Rattle.ld_msg.specs.Network.{posted};

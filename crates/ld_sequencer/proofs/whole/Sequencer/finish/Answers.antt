@@ -1,4 +1,4 @@
-use Rattle.std.proofs.Common.{◌∙◌, sym, subst}
+use Rattle.std.proofs.Common.{◌∙◌, sym}
 use Rattle.ld_recovery.specs.Sending.{BeginsWith}
 use Rattle.ld_recovery.proofs.Begins.{taken_back}
 use Rattle.ld_sequencer.proofs.Begins.{on_err}
