@@ -2,7 +2,7 @@
 use Rattle.std.proofs.Common.{◌≡◌, ◌≢◌, ◌⊎◌, inl, inr, ℕ, ◌≤◌, ◌<◌, ◌==◌, Bool, true, false, List, [], ◌∷◌, ◌++◌, length, Some, Ok, Err, IfOk, IfErr, refl, ap, sym, ◌∙◌, subst, nat_lt, nat_le, arith, if◌then◌else◌}
 use Rattle.std.specs.declared.result.Result.{Result}
 use Rattle.std.proofs.lemmas.Bool.{le-ltb, lt-ltb}
-use Rattle.ld_table.specs.Named.{put_named}
+use Rattle.ld_table.specs.Named.{find_named}
 use Rattle.ld_transcript.specs.declared.line.Line.{Line}
 use Rattle.ld_transcript.specs.declared.line.Line.TheVariants as lines
 use Rattle.ld_lsn.specs.Number.{numbered, last_esn}
@@ -18,7 +18,7 @@ use Rattle.ld_msg.specs.Sequencer as sequencer
 use Rattle.ld_msg.specs.Sequencer.{Sequencer, Acts, called, Appending, or_preempted, appending, appended, payload_limit, window_limit, first_stores, next_esn, released_of, rose, to_each, acted_messages, on_reply, on_retry}
 use Rattle.ld_config.specs.declared.config.Config.{Config}
 use Rattle.ld_machine.specs.Config.{looks_at}
-use Rattle.ld_machine.specs.State.{State, Done, unchanged, only_state, with_line, with_sequencer, with_register, posted}
+use Rattle.ld_machine.specs.State.{State, Done, unchanged, only_state, with_line, with_sequencer, posted}
 use Rattle.ld_machine.specs.Step as step
 use Rattle.ld_recovery.specs.Recovering.{sender_of}
 use Rattle.ld_register.specs.declared.fault.RegisterFault.TheVariants as registers
@@ -29,17 +29,15 @@ use Rattle.ld_sequencer.specs.Looks.{shows}
 use Rattle.ld_sequencer.specs.Own.{append_fault, trim_fault}
 use Rattle.ld_sequencer.specs.Whole.{Whole, as_now, with_recovery, sent_as, looks_of, Acted, ActedBy, IsRefused, Unseen, Unlooked, tried, called_by, reply_acts, retry_acts, raised_whole, pending_stores}
 use Rattle.ld_clients.specs.declared.client.Client.{Client}
+use Rattle.ld_clients.specs.declared.client.Client.TheVariants.{Live, Gone}
 use Rattle.ld_clients.specs.declared.outcome.Outcome.{Outcome}
-use Rattle.ld_clients.specs.Serving.{shown, IsWhole, GoesOn}
+use Rattle.ld_clients.specs.Serving.{faded, shown, log_in, epoch_in, IsWhole, IsWholeIn, GoesOn, Knows, KnowsIn}
 use Rattle.ld_clients.specs.Acting.{IsNamed, HasActed, Stays, report_lines}
 use Rattle.ld_clients.specs.Refusing.{fault_lines, told_lines}
+use Rattle.ld_clients.proofs.Fading.{unfaded, found_live, found_some}
 use Rattle.ld_clients.proofs.Names.{put_same}
-use Rattle.ld_clients.proofs.Rows.{if_yes, if_not}
+use Rattle.ld_clients.proofs.Rows.{if_not}
 use Rattle.ld_clients.proofs.Keeping.{Same, same_after, itself, same_tried, same_on_reply, same_on_retry}
-
-shown_gone : (b : Bool) (q : Sequencer) → q.gone ≡ false → (if b then step.dropped q else q).gone ≡ b
-shown_gone true q h = refl
-shown_gone false q h = h
 
 sender_is : (w : Who) → step.sender_node w ≡ sender_of w
 sender_is (whos.Node n) = refl
@@ -73,208 +71,226 @@ untrimmed false s name released d fault e n = absurd (n e)
 
 -- ---- calls ----
 
-module _ (c : Config) (s : State) (name : List ℕ) (k : Client) (h : IsNamed c s name k) (w : IsWhole k.sequencer) where
-  abbrev q : Sequencer
-  q = k.sequencer.sequencer
+-- one that was dropped does nothing
+pub gone_done : (c : Config) (s : State) (name : List ℕ) (k : Client) (l e : ℕ) → IsNamed c s name k → k ≡ Gone l e → (o : Outcome) (told : Register → Type 0) (f : Sequencer → Done) → told s.register → o.lines.items ≡ [] → o.sends ≡ []
+    → HasActed s name k o told (step.on_live s (Some (shown k)) f)
+gone_done c s name k l e h g o told f t ls ms =
+    let p = found_some (find_named name s.sequencers) (shown k) h.found in
+    subst (λ (x : Done). HasActed s name k o told x) (sym (ap (λ (x : Client). step.on_live s (Some (shown x)) f) g))
+    record {
+      sequencer = p.0;
+      seen = p.2;
+      state = ap (λ x. record s { sequencers = x }) (sym (put_same name p.0 s.sequencers p.1));
+      register = t;
+      lines = ls;
+      sends = ms;
+    }
 
-  acted_as : (g : Client) (o : Outcome) (told : Register → Type 0) (d e : Done) → d ≡ e → HasActed s name g o told e → HasActed s name g o told d
-  acted_as g o told d e p r = subst (λ (x : Done). HasActed s name g o told x) (sym p) r
+-- ---- a drop ----
+
+drop_at : (c : Config) (s : State) (name : List ℕ) (k : Client) → IsNamed c s name k → IsWholeIn k → (o : Outcome) → o.lines.items ≡ [] → o.sends ≡ []
+    → HasActed s name (Gone (log_in k) (epoch_in k)) o (Stays s) (step.on_live s (Some (shown k)) (λ x. only_state (with_sequencer s name (step.dropped x))))
+drop_at c s name (Gone l e) h i o ls ms = gone_done c s name (Gone l e) l e h refl o (Stays s) (λ x. only_state (with_sequencer s name (step.dropped x))) refl ls ms
+drop_at c s name (Live w) h i o ls ms = subst (λ (x : Done). HasActed s name (Gone w.sequencer.log w.sequencer.epoch) o (Stays s) x) (sym (if_not w.sequencer.gone (unchanged s) _ i.live))
+    record { sequencer = step.dropped w.sequencer; seen = refl; state = refl; register = refl; lines = ls; sends = ms }
+
+pub drop_done : (c : Config) (s : State) (name : List ℕ) (k g : Client) → IsNamed c s name k → IsWholeIn k → g ≡ Gone (log_in k) (epoch_in k) → (o : Outcome) → o.lines.items ≡ [] → o.sends ≡ []
+    → HasActed s name g o (Stays s) (step.on_live s (Some (shown k)) (λ x. only_state (with_sequencer s name (step.dropped x))))
+drop_done c s name k g h i e o ls ms = subst (λ (x : Client). HasActed s name x o (Stays s) (step.on_live s (Some (shown k)) (λ x. only_state (with_sequencer s name (step.dropped x))))) (sym e) (drop_at c s name k h i o ls ms)
+
+-- ---- calls of one that wasn't ----
+
+module _ (c : Config) (s : State) (name : List ℕ) (k : Client) (h : IsNamed c s name k) (i : IsWholeIn k) (w : Whole) (is : k ≡ Live w) where
+  abbrev q : Sequencer
+  q = w.sequencer
+
+  live : q.gone ≡ false
+  live = let t : IsWhole w = subst IsWholeIn is i in t.live
+
+  knows : Knows c w
+  knows = subst (KnowsIn c) is h.knows
+
+  acted_as : (v : Whole) (o : Outcome) (told : Register → Type 0) (d e : Done) → d ≡ e → HasActed s name (Live v) o told e → HasActed s name (Live v) o told d
+  acted_as v o told d e p r = subst (λ (x : Done). HasActed s name (Live v) o told x) (sym p) r
 
   -- it stays the same
-  quiet : (g : Client) → g ≡ k → s ≡ record (with_sequencer s name (shown g)) { register = s.register }
-  quiet g e = ap (λ x. record s { sequencers = x }) (sym (ap (λ (x : Client). put_named name (shown x) s.sequencers) e ∙ put_same name (shown k) s.sequencers h.found))
+  quiet : s ≡ record (with_sequencer s name q) { register = s.register }
+  quiet = ap (λ x. record s { sequencers = x }) (sym (put_same name q s.sequencers (found_live (find_named name s.sequencers) q live (h.found ∙ ap (λ (x : Client). Some (shown x)) is))))
 
-  nothing_done : (g : Client) (o : Outcome) (told : Register → Type 0) (d : Done) → g ≡ k → d ≡ unchanged s → told s.register → o.lines.items ≡ [] → o.sends ≡ [] → HasActed s name g o told d
-  nothing_done g o told d e p t ls ms = acted_as g o told d (unchanged s) p record { state = quiet g e; register = t; lines = ls; sends = ms }
+  lines_done : (v : Whole) (o : Outcome) (d : Done) (xs : List Line) → v ≡ w → d ≡ record { state = s; lines = xs; sends = [] } → o.lines.items ≡ xs → o.sends ≡ [] → HasActed s name (Live v) o (Stays s) d
+  lines_done v o d xs e p ls ms = acted_as v o (Stays s) d _ p record { sequencer = q; seen = unfaded q live ∙ ap (λ (x : Whole). x.sequencer) (sym e); state = quiet; register = refl; lines = ls; sends = ms }
 
-  lines_done : (g : Client) (o : Outcome) (d : Done) (xs : List Line) → g ≡ k → d ≡ record { state = s; lines = xs; sends = [] } → o.lines.items ≡ xs → o.sends ≡ [] → HasActed s name g o (Stays s) d
-  lines_done g o d xs e p ls ms = acted_as g o (Stays s) d _ p record { state = quiet g e; register = refl; lines = ls; sends = ms }
+  live_row : (f : Sequencer → Done) → step.on_live s (Some (shown k)) f ≡ f q
+  live_row f = ap (λ (x : Client). step.on_live s (Some (shown x)) f) is ∙ if_not q.gone (unchanged s) (f q) live
 
-  gone_row : (f : Sequencer → Done) → k.dropped ≡ true → step.on_live s (Some (shown k)) f ≡ unchanged s
-  gone_row f e = if_yes (shown k).gone (unchanged s) (f (shown k)) (shown_gone k.dropped q w.live ∙ e)
-
-  shown_is : k.dropped ≡ false → shown k ≡ q
-  shown_is e = ap (λ b. if b then step.dropped q else q) e
-
-  live_row : (f : Sequencer → Done) → k.dropped ≡ false → step.on_live s (Some (shown k)) f ≡ f q
-  live_row f e = ap (λ x. step.on_live s (Some x) f) (shown_is e) ∙ if_not q.gone (unchanged s) (f q) w.live
-
-  pub gone_done : (g : Client) (o : Outcome) (told : Register → Type 0) (f : Sequencer → Done) → g ≡ k → k.dropped ≡ true → told s.register → o.lines.items ≡ [] → o.sends ≡ [] → HasActed s name g o told (step.on_live s (Some (shown k)) f)
-  gone_done g o told f e d t ls ms = nothing_done g o told _ e (gone_row f d) t ls ms
-
-  shown_now : (g : Client) (x : Sequencer) → g.dropped ≡ false → g.sequencer.sequencer ≡ x → shown g ≡ x
-  shown_now g x e p = ap (λ b. if b then step.dropped g.sequencer.sequencer else g.sequencer.sequencer) e ∙ p
+  -- one that isn't gone is then read as it is
+  seen_now : (v : Whole) (x : Sequencer) → v.sequencer ≡ x → x.gone ≡ false → faded x ≡ v.sequencer
+  seen_now v x e g = unfaded x g ∙ sym e
 
   -- looks show the same to the machine
-  looks_are : (λ e. looks_at c s.register q.log e) ≡ looks_of k.sequencer s.register
-  looks_are = ap (λ (x : Spec). λ e. look x s.register q.log e) (sym h.knows.first)
+  looks_are : (λ e. looks_at c s.register q.log e) ≡ looks_of w s.register
+  looks_are = ap (λ (x : Spec). λ e. look x s.register q.log e) (sym knows.first)
 
-  -- ---- a drop ----
+  -- ---- an append ----
 
-  drop_at : (b : Bool) → k.dropped ≡ b → (g : Client) (o : Outcome) → g ≡ record k { dropped = true } → o.lines.items ≡ [] → o.sends ≡ [] → HasActed s name g o (Stays s) (step.on_live s (Some (shown k)) (λ x. only_state (with_sequencer s name (step.dropped x))))
-  drop_at true e g o p ls ms = gone_done g o (Stays s) (λ x. only_state (with_sequencer s name (step.dropped x))) (p ∙ ap (λ b. record k { dropped = b }) (sym e)) e refl ls ms
-  drop_at false e g o p ls ms = acted_as g o (Stays s) _ _ (live_row (λ x. only_state (with_sequencer s name (step.dropped x))) e)
-      record { state = ap (λ (x : Client). with_sequencer s name (shown x)) (sym p); register = refl; lines = ls; sends = ms }
+  pub append_refused : (v : Whole) (p : List ℕ) (fault : SequencerFault) (o : Outcome) → v ≡ w → fault ≡ append_fault (length p) (appending q p) → (fault ≡ faults.NoMemory → ⊥)
+      → o.lines.items ≡ fault_lines name fault → o.sends ≡ [] → HasActed s name (Live v) o (Stays s) (step.on_live s (Some (shown k)) (λ x. step.append_done s name x p (appending x p)))
+  append_refused v p fault o e f n ls ms = lines_done v o _ (fault_lines name fault) e (live_row (λ x. step.append_done s name x p (appending x p)) ∙ unnumbered s name p q (appending q p) fault f n) ls ms
 
-  pub drop_done : (g : Client) (o : Outcome) → g ≡ record k { dropped = true } → o.lines.items ≡ [] → o.sends ≡ [] → HasActed s name g o (Stays s) (step.on_live s (Some (shown k)) (λ x. only_state (with_sequencer s name (step.dropped x))))
-  drop_done g o p ls ms = drop_at k.dropped refl g o p ls ms
+  pub append_done : (v : Whole) (p own : List ℕ) (number : ℕ) (o : Outcome) → v ≡ as_now w (appended q p) → appending q p ≡ sequencer.Numbered → own ≡ name → number ≡ numbered q.epoch (next_esn q)
+      → o.lines.items ≡ lines.Appended own number ∷ [] → o.sends ≡ sent_as w (first_stores q p) → HasActed s name (Live v) o (Stays s) (step.on_live s (Some (shown k)) (λ x. step.append_done s name x p (appending x p)))
+  append_done v p own number o e n u m ls ms = acted_as v o (Stays s) _ (step.append_done s name q p sequencer.Numbered)
+      (live_row (λ x. step.append_done s name x p (appending x p)) ∙ ap (step.append_done s name q p) n)
+      record {
+        sequencer = appended q p;
+        seen = seen_now v (appended q p) (ap (λ (x : Whole). x.sequencer) e) live;
+        state = refl;
+        register = refl;
+        lines = ls ∙ (λ j. lines.Appended (u j) (m j) ∷ []);
+        sends = ms;
+      }
 
-  module _ (live : k.dropped ≡ false) where
-    -- ---- an append ----
+  appending_long : (p : List ℕ) → payload_limit < length p → appending q p ≡ sequencer.TooLong
+  unfolding appending
+  appending_long p l = ap (λ b. if b then sequencer.TooLong else or_preempted q.preempted (if next_esn q == last_esn then sequencer.EpochFull else if nat_le window_limit (length q.appends) then sequencer.WindowFull else sequencer.Numbered)) (lt-ltb payload_limit (length p) l)
 
-    pub append_refused : (g : Client) (p : List ℕ) (fault : SequencerFault) (o : Outcome) → g ≡ k → fault ≡ append_fault (length p) (appending q p) → (fault ≡ faults.NoMemory → ⊥)
-        → o.lines.items ≡ fault_lines name fault → o.sends ≡ [] → HasActed s name g o (Stays s) (step.on_live s (Some (shown k)) (λ x. step.append_done s name x p (appending x p)))
-    append_refused g p fault o e f n ls ms = lines_done g o _ (fault_lines name fault) e (live_row (λ x. step.append_done s name x p (appending x p)) live ∙ unnumbered s name p q (appending q p) fault f n) ls ms
+  pub append_long : (p own : List ℕ) (bytes : ℕ) (o : Outcome) → length p ≡ bytes → payload_limit < bytes → own ≡ name
+      → o.lines.items ≡ lines.RefusedLong own bytes ∷ [] → o.sends ≡ [] → HasActed s name k o (Stays s) (step.on_live s (Some (shown k)) (λ x. step.append_done s name x p (appending x p)))
+  append_long p own bytes o b l u ls ms =
+      subst (λ (x : Client). HasActed s name x o (Stays s) (step.on_live s (Some (shown k)) (λ x. step.append_done s name x p (appending x p)))) (sym is) (lines_done w o _ (lines.RefusedLong name (length p) ∷ []) refl
+      (live_row (λ x. step.append_done s name x p (appending x p)) ∙ ap (step.append_done s name q p) (appending_long p (omega arith)))
+      (ls ∙ (λ j. lines.RefusedLong (u j) (sym b j) ∷ [])) ms)
 
-    pub append_done : (g : Client) (p own : List ℕ) (number : ℕ) (o : Outcome) → g.dropped ≡ false → g.sequencer ≡ as_now k.sequencer (appended q p) → appending q p ≡ sequencer.Numbered → own ≡ name → number ≡ numbered q.epoch (next_esn q)
-        → o.lines.items ≡ lines.Appended own number ∷ [] → o.sends ≡ sent_as k.sequencer (first_stores q p) → HasActed s name g o (Stays s) (step.on_live s (Some (shown k)) (λ x. step.append_done s name x p (appending x p)))
-    append_done g p own number o e v n u m ls ms = acted_as g o (Stays s) _ (step.append_done s name q p sequencer.Numbered)
-        (live_row (λ x. step.append_done s name x p (appending x p)) live ∙ ap (step.append_done s name q p) n)
-        record {
-          state = ap (λ x. with_sequencer s name x) (sym (shown_now g (appended q p) e (ap (λ (x : Whole). x.sequencer) v)));
-          register = refl;
-          lines = ls ∙ (λ i. lines.Appended (u i) (m i) ∷ []);
-          sends = ms;
-        }
+  -- ---- a trim ----
 
-    appending_long : (p : List ℕ) → payload_limit < length p → appending q p ≡ sequencer.TooLong
-    unfolding appending
-    appending_long p l = ap (λ b. if b then sequencer.TooLong else or_preempted q.preempted (if next_esn q == last_esn then sequencer.EpochFull else if nat_le window_limit (length q.appends) then sequencer.WindowFull else sequencer.Numbered)) (lt-ltb payload_limit (length p) l)
+  trim_as : (point : ℕ) (o : Outcome) → HasActed s name (Live w) o (Stays s) (step.on_live s (Some (shown k)) (λ x. step.trim_done c s name x point)) → HasActed s name k o (Stays s) (step.on_live s (Some (shown k)) (λ x. step.trim_done c s name x point))
+  trim_as point o r = subst (λ (x : Client). HasActed s name x o (Stays s) (step.on_live s (Some (shown k)) (λ x. step.trim_done c s name x point))) (sym is) r
 
-    pub append_long : (p own : List ℕ) (bytes : ℕ) (o : Outcome) → length p ≡ bytes → payload_limit < bytes → own ≡ name
-        → o.lines.items ≡ lines.RefusedLong own bytes ∷ [] → o.sends ≡ [] → HasActed s name k o (Stays s) (step.on_live s (Some (shown k)) (λ x. step.append_done s name x p (appending x p)))
-    append_long p own bytes o b l u ls ms = lines_done k o _ (lines.RefusedLong name (length p) ∷ []) refl
-        (live_row (λ x. step.append_done s name x p (appending x p)) live ∙ ap (step.append_done s name q p) (appending_long p (omega arith)))
-        (ls ∙ (λ i. lines.RefusedLong (u i) (sym b i) ∷ [])) ms
+  pub trim_refused : (point : ℕ) (fault : SequencerFault) (o : Outcome) → fault ≡ trim_fault (released_of q) point → (fault ≡ faults.NoMemory → ⊥)
+      → o.lines.items ≡ fault_lines name fault → o.sends ≡ [] → HasActed s name k o (Stays s) (step.on_live s (Some (shown k)) (λ x. step.trim_done c s name x point))
+  trim_refused point fault o f n ls ms = trim_as point o (lines_done w o _ (fault_lines name fault) refl (live_row (λ x. step.trim_done c s name x point) ∙ untrimmed (nat_lt (released_of q) point) s name (released_of q) _ fault f n) ls ms)
 
-    -- ---- a trim ----
+  pub trim_done : (point : ℕ) (own : List ℕ) (o : Outcome) → point ≤ released_of q → own ≡ name
+      → o.lines.items ≡ lines.Trimmed own point ∷ [] → o.sends ≡ sent_as w (to_each (bodies.Trim point) (members w.origin.nodes)) → HasActed s name k o (Stays s) (step.on_live s (Some (shown k)) (λ x. step.trim_done c s name x point))
+  trim_done point own o l u ls ms = trim_as point o (acted_as w o (Stays s) _ _ (live_row (λ x. step.trim_done c s name x point) ∙ if_not (nat_lt (released_of q) point) _ _ (le-ltb (released_of q) point l))
+      record {
+        sequencer = q;
+        seen = unfaded q live;
+        state = quiet;
+        register = refl;
+        lines = ls ∙ ap (λ x. lines.Trimmed x point ∷ []) u;
+        sends = ms ∙ ap (λ (x : List Bool). posted (whos.Sequencer q.epoch) q.log (to_each (bodies.Trim point) (members x))) knows.nodes;
+      })
 
-    pub trim_refused : (point : ℕ) (fault : SequencerFault) (o : Outcome) → fault ≡ trim_fault (released_of q) point → (fault ≡ faults.NoMemory → ⊥)
-        → o.lines.items ≡ fault_lines name fault → o.sends ≡ [] → HasActed s name k o (Stays s) (step.on_live s (Some (shown k)) (λ x. step.trim_done c s name x point))
-    trim_refused point fault o f n ls ms = lines_done k o _ (fault_lines name fault) refl (live_row (λ x. step.trim_done c s name x point) live ∙ untrimmed (nat_lt (released_of q) point) s name (released_of q) _ fault f n) ls ms
+  -- ---- a reply or a retry ----
 
-    pub trim_done : (point : ℕ) (own : List ℕ) (o : Outcome) → point ≤ released_of q → own ≡ name
-        → o.lines.items ≡ lines.Trimmed own point ∷ [] → o.sends ≡ sent_as k.sequencer (to_each (bodies.Trim point) (members k.sequencer.origin.nodes)) → HasActed s name k o (Stays s) (step.on_live s (Some (shown k)) (λ x. step.trim_done c s name x point))
-    trim_done point own o l u ls ms = acted_as k o (Stays s) _ _ (live_row (λ x. step.trim_done c s name x point) live ∙ if_not (nat_lt (released_of q) point) _ _ (le-ltb (released_of q) point l))
-        record {
-          state = quiet k refl;
-          register = refl;
-          lines = ls ∙ ap (λ x. lines.Trimmed x point ∷ []) u;
-          sends = ms ∙ ap (λ (x : List Bool). posted (whos.Sequencer q.epoch) q.log (to_each (bodies.Trim point) (members x))) h.knows.nodes;
-        }
+  told_done : (v : Whole) → GoesOn k (Live v) → (r : Report) (old new : List Msg) (a : Acts) (o : Outcome) (told : Register → Type 0) (d : Done) → d ≡ step.told s name q (called_by w s.register a)
+      → Acted w v r old new (called_by w s.register a).acts → told (called_by w s.register a).register → old ≡ [] → o.lines.items ≡ report_lines name r → o.sends ≡ new → HasActed s name (Live v) o told d
+  told_done v g r old new a o told d e t u b ls ms =
+      let m : GoesOn (Live w) (Live v) = subst (λ (x : Client). GoesOn x (Live v)) is g in
+      let same : v.sequencer ≡ (called_by w s.register a).acts.sequencer = ap (λ (x : Whole). x.sequencer) t.now in
+      acted_as v o told d _ e record {
+        sequencer = (called_by w s.register a).acts.sequencer;
+        seen = seen_now v (called_by w s.register a).acts.sequencer same (ap (λ (x : Sequencer). x.gone) (sym same) ∙ (m.remains.gone ∙ live));
+        state = refl;
+        register = u;
+        lines = ls ∙ told_as name w v r old new (called_by w s.register a).acts t;
+        sends = ms ∙ (t.sent ∙ ap (λ x. x ++ sent_as w (acted_messages q (called_by w s.register a).acts)) b);
+      }
 
-    -- ---- a reply or a retry ----
+  crowded : (r : Result Report SequencerFault) (fault : SequencerFault) (T : Type 0) → r ≡ Err fault → (r ≢ Err faults.NoMemory) → is_crowded s.register (log_in k) ≡ false
+      → (fault ≡ faults.NoMemory) ⊎ ((fault ≡ faults.Register registers.LogLimit) × (is_crowded s.register q.log ≡ true) × T) → ⊥
+  crowded r fault T e n room (inl m) = n (e ∙ ap (λ (f : SequencerFault). Err f) m)
+  crowded r fault T e n room (inr x) = let f : false ≡ true = sym room ∙ (ap (λ (y : Client). is_crowded s.register (log_in y)) is ∙ x.1) in absurd cc
 
-    told_done : (g : Client) (r : Report) (old new : List Msg) (a : Acts) (o : Outcome) (told : Register → Type 0) (d : Done) → d ≡ step.told s name q (called_by k.sequencer s.register a) → g.dropped ≡ false
-        → Acted k.sequencer g.sequencer r old new (called_by k.sequencer s.register a).acts → told (called_by k.sequencer s.register a).register → old ≡ [] → o.lines.items ≡ report_lines name r → o.sends ≡ new → HasActed s name g o told d
-    told_done g r old new a o told d e live_now t u b ls ms = acted_as g o told d _ e
-        record {
-          state = ap (λ x. with_register (with_sequencer s name x) (called_by k.sequencer s.register a).register) (sym (shown_now g (called_by k.sequencer s.register a).acts.sequencer live_now (ap (λ (x : Whole). x.sequencer) t.now)));
-          register = u;
-          lines = ls ∙ told_as name k.sequencer g.sequencer r old new (called_by k.sequencer s.register a).acts t;
-          sends = ms ∙ (t.sent ∙ ap (λ x. x ++ sent_as k.sequencer (acted_messages q (called_by k.sequencer s.register a).acts)) b);
-        }
+  answered_done : (r : Result Report SequencerFault) (v : Whole) → GoesOn k (Live v) → (old new : List Msg) (a : Acts) (o : Outcome) (told : Register → Type 0) (d : Done) → d ≡ step.told s name q (called_by w s.register a)
+      → IfOk r (λ report. Acted w v report old new (called_by w s.register a).acts × told (called_by w s.register a).register)
+      → IfErr r (λ fault. (fault ≡ faults.NoMemory) ⊎ ((fault ≡ faults.Register registers.LogLimit) × (is_crowded s.register q.log ≡ true) × told s.register))
+      → (r ≢ Err faults.NoMemory) → is_crowded s.register (log_in k) ≡ false → old ≡ [] → o.lines.items ≡ told_lines name r → o.sends ≡ new → HasActed s name (Live v) o told d
+  answered_done (Ok report) v g old new a o told d e t x m room b ls ms = told_done v g report old new a o told d e t.0 t.1 b ls ms
+  answered_done (Err fault) v g old new a o told d e t x m room b ls ms = absurd (crowded (Err fault) fault (told s.register) refl m room x)
 
-    crowded : (r : Result Report SequencerFault) (fault : SequencerFault) (T : Type 0) → r ≡ Err fault → (r ≢ Err faults.NoMemory) → is_crowded s.register k.sequencer.sequencer.log ≡ false
-        → (fault ≡ faults.NoMemory) ⊎ ((fault ≡ faults.Register registers.LogLimit) × (is_crowded s.register k.sequencer.sequencer.log ≡ true) × T) → ⊥
-    crowded r fault T e n room (inl m) = n (e ∙ ap (λ (f : SequencerFault). Err f) m)
-    crowded r fault T e n room (inr x) = let f = sym room ∙ x.1 in absurd cc
+  -- what a retry and the message do by the register
+  abbrev retried : Acts
+  retried = retry_acts (looks_of w s.register) w
 
-    answered_done : (r : Result Report SequencerFault) (g : Client) (old new : List Msg) (a : Acts) (o : Outcome) (told : Register → Type 0) (d : Done) → d ≡ step.told s name q (called_by k.sequencer s.register a) → g.dropped ≡ false
-        → IfOk r (λ report. Acted k.sequencer g.sequencer report old new (called_by k.sequencer s.register a).acts × told (called_by k.sequencer s.register a).register)
-        → IfErr r (λ fault. (fault ≡ faults.NoMemory) ⊎ ((fault ≡ faults.Register registers.LogLimit) × (is_crowded s.register k.sequencer.sequencer.log ≡ true) × told s.register))
-        → (r ≢ Err faults.NoMemory) → is_crowded s.register k.sequencer.sequencer.log ≡ false → old ≡ [] → o.lines.items ≡ told_lines name r → o.sends ≡ new → HasActed s name g o told d
-    answered_done (Ok report) g old new a o told d e n t x m room b ls ms = told_done g report old new a o told d e n t.0 t.1 b ls ms
-    answered_done (Err fault) g old new a o told d e n t x m room b ls ms = absurd (crowded (Err fault) fault (told s.register) refl m room x)
+  retry_row : step.on_live s (Some (shown k)) (λ x. step.acted c s name x (on_retry (looks_at c s.register x.log) x)) ≡ step.told s name q (called_by w s.register retried)
+  retry_row = live_row (λ x. step.acted c s name x (on_retry (looks_at c s.register x.log) x))
+      ∙ ap (λ (f : ℕ → View). step.told s name q (called f s.register (on_retry f q) (on_retry f q).tries)) looks_are
 
-    -- what a retry and the message do by the register
-    abbrev retried : Acts
-    retried = retry_acts (looks_of k.sequencer s.register) k.sequencer
+  abbrev replied : Msg → Acts
+  replied m = reply_acts (looks_of w s.register) w m.from m.body
 
-    retry_row : step.on_live s (Some (shown k)) (λ x. step.acted c s name x (on_retry (looks_at c s.register x.log) x)) ≡ step.told s name q (called_by k.sequencer s.register retried)
-    retry_row = live_row (λ x. step.acted c s name x (on_retry (looks_at c s.register x.log) x)) live
-        ∙ ap (λ (f : ℕ → View). step.told s name q (called f s.register (on_retry f q) (on_retry f q).tries)) looks_are
+  reply_row : (m : Msg) → step.to_live c s name (shown k) m ≡ step.told s name q (called_by w s.register (replied m))
+  reply_row m = live_row (λ x. step.acted c s name x (on_reply (λ e. looks_at c s.register x.log e) x (step.sender_node m.from) m.body))
+      ∙ (λ j. step.told s name q (called (looks_are j) s.register (on_reply (looks_are j) q (sender_is m.from j) m.body) (on_reply (looks_are j) q (sender_is m.from j) m.body).tries))
 
-    abbrev replied : Msg → Acts
-    replied m = reply_acts (looks_of k.sequencer s.register) k.sequencer m.from m.body
+  pub retry_done : (r : Result Report SequencerFault) (v : Whole) → GoesOn k (Live v) → (old new : List Msg) (o : Outcome) (told : Register → Type 0)
+      → IfOk r (λ report. Acted w v report old new (called_by w s.register retried).acts × told (called_by w s.register retried).register)
+      → IfErr r (λ fault. (fault ≡ faults.NoMemory) ⊎ ((fault ≡ faults.Register registers.LogLimit) × (is_crowded s.register q.log ≡ true) × told s.register))
+      → (r ≢ Err faults.NoMemory) → is_crowded s.register (log_in k) ≡ false → old ≡ [] → o.lines.items ≡ told_lines name r → o.sends ≡ new
+      → HasActed s name (Live v) o told (step.on_live s (Some (shown k)) (λ x. step.acted c s name x (on_retry (looks_at c s.register x.log) x)))
+  retry_done r v g old new o told t x m room b ls ms = answered_done r v g old new retried o told _ retry_row t x m room b ls ms
 
-    reply_row : (m : Msg) → step.to_live c s name (shown k) m ≡ step.told s name q (called_by k.sequencer s.register (replied m))
-    reply_row m = live_row (λ x. step.acted c s name x (on_reply (λ e. looks_at c s.register x.log e) x (step.sender_node m.from) m.body)) live
-        ∙ (λ i. step.told s name q (called (looks_are i) s.register (on_reply (looks_are i) q (sender_is m.from i) m.body) (on_reply (looks_are i) q (sender_is m.from i) m.body).tries))
-
-    pub retry_done : (r : Result Report SequencerFault) (g : Client) (old new : List Msg) (o : Outcome) (told : Register → Type 0) → g.dropped ≡ false
-        → IfOk r (λ report. Acted k.sequencer g.sequencer report old new (called_by k.sequencer s.register retried).acts × told (called_by k.sequencer s.register retried).register)
-        → IfErr r (λ fault. (fault ≡ faults.NoMemory) ⊎ ((fault ≡ faults.Register registers.LogLimit) × (is_crowded s.register k.sequencer.sequencer.log ≡ true) × told s.register))
-        → (r ≢ Err faults.NoMemory) → is_crowded s.register k.sequencer.sequencer.log ≡ false → old ≡ [] → o.lines.items ≡ told_lines name r → o.sends ≡ new
-        → HasActed s name g o told (step.on_live s (Some (shown k)) (λ x. step.acted c s name x (on_retry (looks_at c s.register x.log) x)))
-    retry_done r g old new o told n t x m room b ls ms = answered_done r g old new retried o told _ retry_row n t x m room b ls ms
-
-    pub reply_done : (m : Msg) (r : Result Report SequencerFault) (g : Client) (old new : List Msg) (o : Outcome) (told : Register → Type 0) → g.dropped ≡ false
-        → IfOk r (λ report. Acted k.sequencer g.sequencer report old new (called_by k.sequencer s.register (replied m)).acts × told (called_by k.sequencer s.register (replied m)).register)
-        → IfErr r (λ fault. (fault ≡ faults.NoMemory) ⊎ ((fault ≡ faults.Register registers.LogLimit) × (is_crowded s.register k.sequencer.sequencer.log ≡ true) × told s.register))
-        → (r ≢ Err faults.NoMemory) → is_crowded s.register k.sequencer.sequencer.log ≡ false → old ≡ [] → o.lines.items ≡ told_lines name r → o.sends ≡ new
-        → HasActed s name g o told (step.to_live c s name (shown k) m)
-    reply_done m r g old new o told n t x f room b ls ms = answered_done r g old new (replied m) o told _ (reply_row m) n t x f room b ls ms
+  pub reply_done : (m : Msg) (r : Result Report SequencerFault) (v : Whole) → GoesOn k (Live v) → (old new : List Msg) (o : Outcome) (told : Register → Type 0)
+      → IfOk r (λ report. Acted w v report old new (called_by w s.register (replied m)).acts × told (called_by w s.register (replied m)).register)
+      → IfErr r (λ fault. (fault ≡ faults.NoMemory) ⊎ ((fault ≡ faults.Register registers.LogLimit) × (is_crowded s.register q.log ≡ true) × told s.register))
+      → (r ≢ Err faults.NoMemory) → is_crowded s.register (log_in k) ≡ false → old ≡ [] → o.lines.items ≡ told_lines name r → o.sends ≡ new
+      → HasActed s name (Live v) o told (step.to_live c s name (shown k) m)
+  reply_done m r v g old new o told t x f room b ls ms = answered_done r v g old new (replied m) o told _ (reply_row m) t x f room b ls ms
 
 -- ---- the same sequencer after a call ----
 
-goes_as : (k g : Client) (x : Sequencer) → g.dropped ≡ k.dropped → g.sequencer ≡ as_now k.sequencer x → Same k.sequencer.sequencer x → GoesOn k g
-goes_as k g x d e m = record {
-  origin = ap (λ (y : Whole). y.origin) e;
-  spec = ap (λ (y : Whole). y.sequencer.spec) e ∙ m.spec;
-  log = ap (λ (y : Whole). y.sequencer.log) e ∙ m.log;
-  epoch = ap (λ (y : Whole). y.sequencer.epoch) e ∙ m.epoch;
-  gone = ap (λ (y : Whole). y.sequencer.gone) e ∙ m.gone;
-  dropped = d;
-}
+module _ (k : Client) (w : Whole) (is : k ≡ Live w) (v : Whole) where
+  goes_as : (x : Sequencer) → v ≡ as_now w x → Same w.sequencer x → GoesOn k (Live v)
+  goes_as x e m = subst (λ (y : Client). GoesOn y (Live v)) (sym is) record {
+    log = ap (λ (y : Whole). y.sequencer.log) e ∙ m.log;
+    epoch = ap (λ (y : Whole). y.sequencer.epoch) e ∙ m.epoch;
+    remains = record {
+      origin = ap (λ (y : Whole). y.origin) e;
+      spec = ap (λ (y : Whole). y.sequencer.spec) e ∙ m.spec;
+      gone = ap (λ (y : Whole). y.sequencer.gone) e ∙ m.gone;
+    };
+  }
 
--- with what looks show and what the register answers to a close
-answered_goes : (k g : Client) (report : Report) (old new : List Msg) (f : (ℕ → View) → Acts) → g.dropped ≡ k.dropped → ((looks : ℕ → View) → Same k.sequencer.sequencer (f looks).sequencer) → ActedBy k.sequencer g.sequencer report old new f → GoesOn k g
-answered_goes k g report old new f e m t = let looks : ℕ → View = t.0 in let a : Acts = f looks in
-    goes_as k g (tried looks a t.2).sequencer e t.3.now (same_after k.sequencer.sequencer a.sequencer (tried looks a t.2).sequencer (m looks) (same_tried looks a t.2 a.tries))
+  -- with what looks show and what the register answers to a close
+  answered_goes : (report : Report) (old new : List Msg) (f : (ℕ → View) → Acts) → ((looks : ℕ → View) → Same w.sequencer (f looks).sequencer) → ActedBy w v report old new f → GoesOn k (Live v)
+  answered_goes report old new f m t = let looks : ℕ → View = t.0 in let a : Acts = f looks in
+      goes_as (tried looks a t.2).sequencer t.3.now (same_after w.sequencer a.sequencer (tried looks a t.2).sequencer (m looks) (same_tried looks a t.2 a.tries))
 
-refused_goes : (k g : Client) (fault : SequencerFault) (r : Result Report SequencerFault) (old new : List Msg) (a : Acts) → r ≡ Err fault → (r ≢ Err faults.NoMemory) → g.dropped ≡ k.dropped → Same k.sequencer.sequencer a.sequencer → IsRefused k.sequencer g.sequencer fault old new a → GoesOn k g
-refused_goes k g fault r old new a e n d m (inl f) = absurd (n (e ∙ ap (λ (x : SequencerFault). Err x) f))
-refused_goes k g fault r old new a e n d m (inr u) = goes_as k g a.sequencer d u.now m
+  refused_goes : (fault : SequencerFault) (r : Result Report SequencerFault) (old new : List Msg) (a : Acts) → r ≡ Err fault → (r ≢ Err faults.NoMemory) → Same w.sequencer a.sequencer → IsRefused w v fault old new a → GoesOn k (Live v)
+  refused_goes fault r old new a e n m (inl f) = absurd (n (e ∙ ap (λ (x : SequencerFault). Err x) f))
+  refused_goes fault r old new a e n m (inr u) = goes_as a.sequencer u.now m
 
--- where the register couldn't be looked at, or a close isn't known to be made
-unlooked_goes : (k g : Client) (fault : SequencerFault) (r : Result Report SequencerFault) (old new : List Msg) (own : Sequencer) (stores : List (ℕ × Body)) (f : (ℕ → View) → Acts) → r ≡ Err fault → (r ≢ Err faults.NoMemory) → g.dropped ≡ k.dropped
-    → Same k.sequencer.sequencer own → ((looks : ℕ → View) → Same k.sequencer.sequencer (f looks).sequencer)
-    → Unlooked k.sequencer g.sequencer fault old new own stores f ⊎ ((looks : ℕ → View) → IsRefused k.sequencer g.sequencer fault old new (f looks)) → GoesOn k g
-unlooked_goes k g fault r old new own stores f e n d o m (inl u) = goes_as k g (with_recovery (Some u.recovery) own) d u.now record { log = o.log; epoch = o.epoch; spec = o.spec; gone = o.gone }
-unlooked_goes k g fault r old new own stores f e n d o m (inr h) = let looks : ℕ → View = shows k.sequencer.sequencer.spec in refused_goes k g fault r old new (f looks) e n d (m looks) (h looks)
+  -- where the register couldn't be looked at, or a close isn't known to be made
+  unlooked_goes : (fault : SequencerFault) (r : Result Report SequencerFault) (old new : List Msg) (own : Sequencer) (stores : List (ℕ × Body)) (f : (ℕ → View) → Acts) → r ≡ Err fault → (r ≢ Err faults.NoMemory)
+      → Same w.sequencer own → ((looks : ℕ → View) → Same w.sequencer (f looks).sequencer)
+      → Unlooked w v fault old new own stores f ⊎ ((looks : ℕ → View) → IsRefused w v fault old new (f looks)) → GoesOn k (Live v)
+  unlooked_goes fault r old new own stores f e n o m (inl u) = goes_as (with_recovery (Some u.recovery) own) u.now record { log = o.log; epoch = o.epoch; spec = o.spec; gone = o.gone }
+  unlooked_goes fault r old new own stores f e n o m (inr h) = let looks : ℕ → View = shows w.sequencer.spec in refused_goes fault r old new (f looks) e n (m looks) (h looks)
 
-pub retried_goes : (k g : Client) (r : Result Report SequencerFault) (old new : List Msg) → g.dropped ≡ k.dropped
-    → IfOk r (λ report. ActedBy k.sequencer g.sequencer report old new (λ looks. retry_acts looks k.sequencer))
-    → IfErr r (λ fault. Unlooked k.sequencer g.sequencer fault old new (raised_whole k.sequencer).sequencer (pending_stores (raised_whole k.sequencer)) (λ looks. retry_acts looks k.sequencer)
-    ⊎ ((looks : ℕ → View) → IsRefused k.sequencer g.sequencer fault old new (retry_acts looks k.sequencer))) → (r ≢ Err faults.NoMemory) → GoesOn k g
-retried_goes k g (Ok report) old new e t x n = answered_goes k g report old new (λ looks. retry_acts looks k.sequencer) e (λ looks. same_on_retry looks k.sequencer.sequencer) t
-retried_goes k g (Err fault) old new e t x n = unlooked_goes k g fault (Err fault) old new (raised_whole k.sequencer).sequencer (pending_stores (raised_whole k.sequencer)) (λ looks. retry_acts looks k.sequencer) refl n e
-    record { log = refl; epoch = refl; spec = refl; gone = refl } (λ looks. same_on_retry looks k.sequencer.sequencer) x
+  pub retried_goes : (r : Result Report SequencerFault) (old new : List Msg) → IfOk r (λ report. ActedBy w v report old new (λ looks. retry_acts looks w))
+      → IfErr r (λ fault. Unlooked w v fault old new (raised_whole w).sequencer (pending_stores (raised_whole w)) (λ looks. retry_acts looks w)
+      ⊎ ((looks : ℕ → View) → IsRefused w v fault old new (retry_acts looks w))) → (r ≢ Err faults.NoMemory) → GoesOn k (Live v)
+  retried_goes (Ok report) old new t x n = answered_goes report old new (λ looks. retry_acts looks w) (λ looks. same_on_retry looks w.sequencer) t
+  retried_goes (Err fault) old new t x n = unlooked_goes fault (Err fault) old new (raised_whole w).sequencer (pending_stores (raised_whole w)) (λ looks. retry_acts looks w) refl n
+      record { log = refl; epoch = refl; spec = refl; gone = refl } (λ looks. same_on_retry looks w.sequencer) x
 
-unheard_goes : (k g : Client) (fault : SequencerFault) (r : Result Report SequencerFault) (old new : List Msg) (w : Who) (b : Body) → r ≡ Err fault → (r ≢ Err faults.NoMemory) → g.dropped ≡ k.dropped
-    → Unseen k.sequencer g.sequencer fault old new b ⊎ (Unlooked k.sequencer g.sequencer fault old new k.sequencer.sequencer [] (λ looks. reply_acts looks k.sequencer w b)
-    ⊎ ((looks : ℕ → View) → IsRefused k.sequencer g.sequencer fault old new (reply_acts looks k.sequencer w b))) → GoesOn k g
-unheard_goes k g fault r old new w b e n d (inl u) = goes_as k g k.sequencer.sequencer d u.now (itself k.sequencer.sequencer)
-unheard_goes k g fault r old new w b e n d (inr x) = unlooked_goes k g fault r old new k.sequencer.sequencer [] (λ looks. reply_acts looks k.sequencer w b) e n d
-    (itself k.sequencer.sequencer) (λ looks. same_on_reply looks k.sequencer.sequencer (sender_of w) b) x
+  unheard_goes : (fault : SequencerFault) (r : Result Report SequencerFault) (old new : List Msg) (y : Who) (b : Body) → r ≡ Err fault → (r ≢ Err faults.NoMemory)
+      → Unseen w v fault old new b ⊎ (Unlooked w v fault old new w.sequencer [] (λ looks. reply_acts looks w y b)
+      ⊎ ((looks : ℕ → View) → IsRefused w v fault old new (reply_acts looks w y b))) → GoesOn k (Live v)
+  unheard_goes fault r old new y b e n (inl u) = goes_as w.sequencer u.now (itself w.sequencer)
+  unheard_goes fault r old new y b e n (inr x) = unlooked_goes fault r old new w.sequencer [] (λ looks. reply_acts looks w y b) e n
+      (itself w.sequencer) (λ looks. same_on_reply looks w.sequencer (sender_of y) b) x
 
-pub replied_goes : (k g : Client) (r : Result Report SequencerFault) (old new : List Msg) (w : Who) (b : Body) → g.dropped ≡ k.dropped
-    → IfOk r (λ report. ActedBy k.sequencer g.sequencer report old new (λ looks. reply_acts looks k.sequencer w b))
-    → IfErr r (λ fault. Unseen k.sequencer g.sequencer fault old new b ⊎ (Unlooked k.sequencer g.sequencer fault old new k.sequencer.sequencer [] (λ looks. reply_acts looks k.sequencer w b)
-    ⊎ ((looks : ℕ → View) → IsRefused k.sequencer g.sequencer fault old new (reply_acts looks k.sequencer w b)))) → (r ≢ Err faults.NoMemory) → GoesOn k g
-replied_goes k g (Ok report) old new w b e t x n = answered_goes k g report old new (λ looks. reply_acts looks k.sequencer w b) e (λ looks. same_on_reply looks k.sequencer.sequencer (sender_of w) b) t
-replied_goes k g (Err fault) old new w b e t x n = unheard_goes k g fault (Err fault) old new w b refl n e x
+  pub replied_goes : (r : Result Report SequencerFault) (old new : List Msg) (y : Who) (b : Body) → IfOk r (λ report. ActedBy w v report old new (λ looks. reply_acts looks w y b))
+      → IfErr r (λ fault. Unseen w v fault old new b ⊎ (Unlooked w v fault old new w.sequencer [] (λ looks. reply_acts looks w y b)
+      ⊎ ((looks : ℕ → View) → IsRefused w v fault old new (reply_acts looks w y b)))) → (r ≢ Err faults.NoMemory) → GoesOn k (Live v)
+  replied_goes (Ok report) old new y b t x n = answered_goes report old new (λ looks. reply_acts looks w y b) (λ looks. same_on_reply looks w.sequencer (sender_of y) b) t
+  replied_goes (Err fault) old new y b t x n = unheard_goes fault (Err fault) old new y b refl n x
 
-pub appended_goes : (k g : Client) (p : List ℕ) → g.dropped ≡ k.dropped → g.sequencer ≡ as_now k.sequencer (appended k.sequencer.sequencer p) → GoesOn k g
-appended_goes k g p d e = goes_as k g (appended k.sequencer.sequencer p) d e record { log = refl; epoch = refl; spec = refl; gone = refl }
+  pub appended_goes : (p : List ℕ) → v ≡ as_now w (appended w.sequencer p) → GoesOn k (Live v)
+  appended_goes p e = goes_as (appended w.sequencer p) e record { log = refl; epoch = refl; spec = refl; gone = refl }
 
-pub same_goes : (k g : Client) → g ≡ k → GoesOn k g
-same_goes k g e = record {
-  origin = ap (λ (x : Client). x.sequencer.origin) e;
-  spec = ap (λ (x : Client). x.sequencer.sequencer.spec) e;
-  log = ap (λ (x : Client). x.sequencer.sequencer.log) e;
-  epoch = ap (λ (x : Client). x.sequencer.sequencer.epoch) e;
-  gone = ap (λ (x : Client). x.sequencer.sequencer.gone) e;
-  dropped = ap (λ (x : Client). x.dropped) e;
-}
+  pub unchanged_goes : v ≡ w → GoesOn k (Live v)
+  unchanged_goes e = goes_as w.sequencer e (itself w.sequencer)

@@ -24,8 +24,9 @@ use Rattle.ld_sequencer.specs.declared.fault.SequencerFault.{SequencerFault}
 use Rattle.ld_sequencer.specs.declared.fault.SequencerFault.TheVariants as faults
 use Rattle.ld_sequencer.specs.Whole.{Whole, origin_of, first_asks, looks_after, IsActive, Activates}
 use Rattle.ld_clients.specs.declared.client.Client.{Client}
+use Rattle.ld_clients.specs.declared.client.Client.TheVariants.{Live}
 use Rattle.ld_clients.specs.declared.outcome.Outcome.{Outcome}
-use Rattle.ld_clients.specs.Serving.{shown, IsWhole, Knows, KnowTheirLogs, HasRoom}
+use Rattle.ld_clients.specs.Serving.{faded, shown, IsWhole, KnowsIn, KnowTheirLogs, HasRoom}
 use Rattle.ld_clients.specs.Acting.{AreSequencers, IsActed, HasActed}
 use Rattle.ld_clients.specs.Refusing.{fault_lines}
 use Rattle.ld_clients.proofs.Names.{some_each, all_put}
@@ -98,10 +99,10 @@ unfolding activated
 active_log origin spec looks g w old new h = ap (λ (x : Whole). x.sequencer.log) h.value
 
 pub know_active : (c : Config) (ks : List (List ℕ × Client)) (name : List ℕ) (l : ℕ) (spec first : Spec) (looks : ℕ → View) (g : Grant) (w : Whole) (old new : List Msg) → first ≡ first_spec c l → has_log c l ≡ true → spec.log ≡ l
-    → IsActive (origin_of c.nodes first) spec looks g w old new → KnowTheirLogs c ks → KnowTheirLogs c (put_named name (record { sequencer = w; dropped = false }) ks)
+    → IsActive (origin_of c.nodes first) spec looks g w old new → KnowTheirLogs c ks → KnowTheirLogs c (put_named name (Live w) ks)
 know_active c ks name l spec first looks g w old new f t m h k =
     let e : w.sequencer.log ≡ l = active_log (origin_of c.nodes first) spec looks g w old new h ∙ m in
-    all_put (λ (x : Client). Knows c x.sequencer) name (record { sequencer = w; dropped = false }) ks
+    all_put (KnowsIn c) name (Live w) ks
     record {
       nodes = ap (λ (x : Whole). x.origin.nodes) h.value;
       first = ap (λ (x : Whole). x.origin.first) h.value ∙ (f ∙ ap (first_spec c) (sym e));
@@ -110,7 +111,7 @@ know_active c ks name l spec first looks g w old new f t m h k =
 
 module _ (c : Config) (s : State) (ks : List (List ℕ × Client)) (a : AreSequencers c s ks) (name : List ℕ) (o : Outcome) (told : Register → Type 0) where
   taken_as : is_some (find_named name s.sequencers) ≡ is_some (find_named name ks)
-  taken_as = ap (λ x. is_some (find_named name x)) a.sequencers ∙ some_each shown name ks
+  taken_as = sym (some_each faded name s.sequencers) ∙ (ap (λ x. is_some (find_named name x)) a.sequencers ∙ some_each shown name ks)
 
   pub taken_done : (l : ℕ) → is_some (find_named name ks) ≡ true → told s.register → o.lines.items ≡ [] → o.sends ≡ [] → IsActed s ks o told (step.happens c s (events.Activate name l))
   unfolding step.happens
@@ -180,10 +181,12 @@ module _ (c : Config) (s : State) (ks : List (List ℕ × Client)) (a : AreSeque
     }
 
     begun_done : (w : Whole) (old new : List Msg) (own : List ℕ) → IsActive origin spec (λ e. looks e) grant w old new → told changed.register → old ≡ [] → own ≡ name → o.lines.items ≡ lines.Active own w.sequencer.epoch ∷ [] → o.sends ≡ new
-        → HasActed s name (record { sequencer = w; dropped = false }) o told (begun (λ e. looks e) spec grant.lce)
+        → HasActed s name (Live w) o told (begun (λ e. looks e) spec grant.lce)
     unfolding activated
     begun_done w old new own h t b n ls ms = record {
-      state = ap (λ (x : Whole). with_register (with_sequencer s name x.sequencer) changed.register) (sym h.value);
+      sequencer = activated (λ e. looks e) spec spec.log grant.epoch grant.lce;
+      seen = ap (λ (x : Whole). x.sequencer) (sym h.value);
+      state = refl;
       register = t;
       lines = ls ∙ (λ i. lines.Active (n i) (ap (λ (x : Whole). x.sequencer.epoch) h.value i) ∷ []);
       sends = ms ∙ (h.sent ∙ (ap (λ x. x ++ first_asks (λ e. looks e) w) b ∙ ap (first_asks (λ e. looks e)) h.value));
@@ -195,12 +198,12 @@ module _ (c : Config) (s : State) (ks : List (List ℕ × Client)) (a : AreSeque
 
     pub granted_done : (w : Whole) (old new : List Msg) (own : List ℕ) (gs : List (List ℕ × Client)) (before : Type 0)
         → (IsErrOf {E = SequencerFault} (Ok w) faults.NoMemory × before) ⊎ (Activates origin spec (λ e. looks_after first spec s.register e) old new (Ok w) (answered s.register spec) × told (after_activate s.register spec))
-        → old ≡ [] → own ≡ name → gs ≡ put_named own (record { sequencer = w; dropped = false }) ks → o.lines.items ≡ lines.Active own w.sequencer.epoch ∷ [] → o.sends ≡ new → IsActed s gs o told (step.happens c s (events.Activate name spec.log))
+        → old ≡ [] → own ≡ name → gs ≡ put_named own (Live w) ks → o.lines.items ≡ lines.Active own w.sequencer.epoch ∷ [] → o.sends ≡ new → IsActed s gs o told (step.happens c s (events.Activate name spec.log))
     granted_done w old new own gs before (inl x) b n g ls ms = let e : Ok w ≡ Err faults.NoMemory = x.0 in absurd cc
     granted_done w old new own gs before (inr x) b n g ls ms =
         let p = granted_only origin spec (λ e. looks e) old new w changed.answer full registers.EpochLimit grant (by_answer old new (Ok w) x.0) in
         acted_as c s ks a gs o told _ _ (granted_row p.0)
-        (placed c s ks a name (record { sequencer = w; dropped = false }) gs o told _ (g ∙ ap (λ y. put_named y (record { sequencer = w; dropped = false }) ks) n)
+        (placed c s ks a name (Live w) gs o told _ (g ∙ ap (λ y. put_named y (Live w) ks) n)
         (begun_done w old new own p.1 (subst told after_is x.1) b n ls ms))
 
     -- ---- refused ----
@@ -209,13 +212,13 @@ module _ (c : Config) (s : State) (ks : List (List ℕ × Client)) (a : AreSeque
         → old ≡ [] → o.lines.items ≡ fault_lines name fault → o.sends ≡ new → IsActed s ks o told (step.happens c s (events.Activate name spec.log))
     refused_as old new fault Granted f e h t b ls ms = absurd h
     refused_as old new fault AtLimit f e h t b ls ms = acted_as c s ks a ks o told _ (with_line (with_register s changed.register) (lines.RefusedEpochLimit name)) (new_row ∙ ap (step.activates_by c s name spec.log changed.register) e)
-        record { state = ap (λ y. record s { sequencers = y; register = changed.register }) a.sequencers; register = t; lines = ls ∙ ap (fault_lines name) h.0; sends = ms ∙ (h.1 ∙ b) }
+        record { state = refl; sequencers = a.sequencers; register = t; lines = ls ∙ ap (fault_lines name) h.0; sends = ms ∙ (h.1 ∙ b) }
     refused_as old new fault (Behind lce) f e h t b ls ms = absurd (not_so s.register spec.log spec (Behind lce) e refl)
     refused_as old new fault (Overtaken epoch) f e h t b ls ms = absurd (not_so s.register spec.log spec (Overtaken epoch) e refl)
     refused_as old new fault Fails true e h t b ls ms = acted_as c s ks a ks o told _ (with_line (with_register s changed.register) (lines.RefusedRegister name)) (new_row ∙ ap (step.activates_by c s name spec.log changed.register) e)
-        record { state = ap (λ y. record s { sequencers = y; register = changed.register }) a.sequencers; register = t; lines = ls ∙ ap (fault_lines name) h.0; sends = ms ∙ (h.1 ∙ b) }
+        record { state = refl; sequencers = a.sequencers; register = t; lines = ls ∙ ap (fault_lines name) h.0; sends = ms ∙ (h.1 ∙ b) }
     refused_as old new fault Fails false e h t b ls ms = acted_as c s ks a ks o told _ (with_line (with_register s changed.register) (lines.RefusedRegister name)) (new_row ∙ ap (step.activates_by c s name spec.log changed.register) e)
-        record { state = ap (λ y. record s { sequencers = y; register = changed.register }) a.sequencers; register = t; lines = ls ∙ ap (fault_lines name) h.0; sends = ms ∙ (h.1 ∙ b) }
+        record { state = refl; sequencers = a.sequencers; register = t; lines = ls ∙ ap (fault_lines name) h.0; sends = ms ∙ (h.1 ∙ b) }
 
     err_is : (fault : SequencerFault) → IsErrOf {T = Whole} (Err fault) faults.NoMemory → fault ≡ faults.NoMemory
     err_is fault e = cc

@@ -1,6 +1,7 @@
 pub mod Acting
 pub mod Activating
 pub mod Bounds
+pub mod Fading
 pub mod Followings
 pub mod Items
 pub mod Keeping

@@ -3,6 +3,7 @@ use Rattle.std.proofs.Common.{◌≡◌, ℕ, suc, Bool, true, false, cond, List
 use Rattle.std.specs.Map as map
 use Rattle.ld_table.specs.Named.{same, find_named, put_named}
 use Rattle.ld_table.proofs.NameLaws.{find_named-put_named}
+use Rattle.ld_machine.specs.State.{name_of}
 use Rattle.ld_clients.specs.Names.{each_as, AllNamed}
 
 module _ {X : Type 0} where
@@ -71,6 +72,26 @@ module _ {X Y : Type 0} (f : X → Y) where
 
   pub find_each_none : (k : List ℕ) (m : List (List ℕ × X)) → find_named k m ≡ None → find_named k (each_as f m) ≡ None
   find_each_none k m h = find_each k m ∙ ap (option_map f) h
+
+  -- an entry whose value is seen so
+  abbrev pub entry_as : List ℕ × X → List ℕ × Y
+  entry_as e = (e.0, f e.1)
+
+  -- the first one is the first one seen
+  pub first_step : (b c : Bool) (e : List ℕ × X) (o : Option (List ℕ × X)) (p : Option (List ℕ × Y)) → c ≡ b → p ≡ option_map entry_as o → (if c then Some (entry_as e) else p) ≡ option_map entry_as (if b then Some e else o)
+  first_step true true e o p t h = refl
+  first_step false false e o p t h = h
+  first_step true false e o p t h = absurd cc
+  first_step false true e o p t h = absurd cc
+
+  -- its name stays
+  pub name_as : (o : Option (List ℕ × X)) → name_of (option_map entry_as o) ≡ name_of o
+  name_as None = refl
+  name_as (Some e) = refl
+
+  pub none_seen : (o : Option X) → option_map f o ≡ None → o ≡ None
+  none_seen None h = refl
+  none_seen (Some x) h = absurd cc
 
   put_step : (b : Bool) (e : List ℕ × X) (v : X) (m n : List (List ℕ × X)) (r : List (List ℕ × Y)) → r ≡ each_as f n
       → (if b then (e.0, f v) ∷ each_as f m else (e.0, f e.1) ∷ r) ≡ each_as f (if b then (e.0, v) ∷ m else e ∷ n)

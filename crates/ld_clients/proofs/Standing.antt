@@ -4,10 +4,10 @@ use Rattle.std.proofs.lemmas.Bool.{eqb-true, and_parts}
 use Rattle.ld_table.specs.Words.{or_else}
 use Rattle.ld_table.specs.Named.{same, find_named, put_named}
 use Rattle.ld_clients.specs.declared.client.Client.{Client}
-use Rattle.ld_clients.specs.Serving.{serving_in, IsWhole, GoesOn, AreWhole}
+use Rattle.ld_clients.specs.Serving.{log_in, epoch_in, serving_in, IsWholeIn, GoesOn, AreWhole}
 use Rattle.ld_clients.specs.Places.{serves, place_in, kept_place, AreServed}
 use Rattle.ld_clients.proofs.Names.{all_put, all_none}
-use Rattle.ld_clients.proofs.Serving.{are_whole_after, are_whole_dropped}
+use Rattle.ld_clients.proofs.Serving.{are_whole_after}
 
 abbrev Serving : Type 0
 Serving = List (List ℕ × Client)
@@ -63,14 +63,8 @@ served_after name k g ks gs m f s e a = record {
   places = λ l epoch. a.places l epoch ∙ sym (ap (place_in l epoch) e ∙ place_put l epoch name k g ks f (same_serves l epoch k g s));
 }
 
-pub served_dropped : (name : List ℕ) (k g : Client) (ks gs : Serving) (m : Kept) → find_named name ks ≡ Some k → g ≡ record k { dropped = true } → gs ≡ put_named name g ks → AreServed ks m → AreServed gs m
-served_dropped name k g ks gs m f e p a = record {
-  whole = are_whole_dropped name k g ks gs f e p a.whole;
-  places = λ l epoch. a.places l epoch ∙ sym (ap (place_in l epoch) p ∙ place_put l epoch name k g ks f (ap (serves l epoch) e));
-}
-
 pub served_none : (ks : Serving) (m : Kept) → ks ≡ [] → m ≡ [] → AreServed ks m
-served_none ks m e f = subst (λ (x : Serving). AreServed x m) (sym e) (subst (λ (x : Kept). AreServed [] x) (sym f) record { whole = all_none (λ (k : Client). IsWhole k.sequencer); places = λ l epoch. refl })
+served_none ks m e f = subst (λ (x : Serving). AreServed x m) (sym e) (subst (λ (x : Kept). AreServed [] x) (sym f) record { whole = all_none IsWholeIn; places = λ l epoch. refl })
 
 -- ---- a new one at the end ----
 
@@ -90,10 +84,10 @@ unfolding find_named put_named
 place_new l e name g [] h = refl
 place_new l e name g (x ∷ ks) h = new_step (same name x.0) l e g x ks _ _ h (λ t. place_new l e name g ks t)
 
-pub served_new : (name : List ℕ) (g : Client) (ks gs : Serving) (m n : Kept) (log epoch place : ℕ) → find_named name ks ≡ None → IsWhole g.sequencer → gs ≡ put_named name g ks → log ≡ g.sequencer.sequencer.log → epoch ≡ g.sequencer.sequencer.epoch → place ≡ length ks
+pub served_new : (name : List ℕ) (g : Client) (ks gs : Serving) (m n : Kept) (log epoch place : ℕ) → find_named name ks ≡ None → IsWholeIn g → gs ≡ put_named name g ks → log ≡ log_in g → epoch ≡ epoch_in g → place ≡ length ks
     → ((l e : ℕ) → kept_place l e n ≡ or_else (kept_place l e m) (if (log == l) && (epoch == e) then Some place else None)) → AreServed ks m → AreServed gs n
 served_new name g ks gs m n log epoch place f w e a b c h s = record {
-  whole = subst AreWhole (sym e) (all_put (λ (k : Client). IsWhole k.sequencer) name g ks w s.whole);
+  whole = subst AreWhole (sym e) (all_put IsWholeIn name g ks w s.whole);
   places = λ l t. h l t ∙ ((λ i. or_else (s.places l t i) (if (a i == l) && (b i == t) then Some (c i) else None)) ∙ sym (ap (place_in l t) e ∙ place_new l t name g ks f));
 }
 

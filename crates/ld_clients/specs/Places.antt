@@ -1,12 +1,12 @@
 -- Where the sequencers of the epochs of logs stand in the order of activation.
 use Rattle.std.specs.Prelude.{ℕ, suc, ◌≡◌, ◌==◌, ◌&&◌, Bool, List, [], ◌∷◌, Option, Some, None, option_map, if◌then◌else◌}
 use Rattle.std.specs.Map as map
-use Rattle.ld_clients.specs.Serving.{AreWhole}
+use Rattle.ld_clients.specs.Serving.{log_in, epoch_in, AreWhole}
 use Rattle.ld_clients.specs.declared.client.Client.{Client}
 
 -- it is of that epoch of the log
 abbrev pub serves : ℕ → ℕ → Client → Bool
-serves l epoch k = (k.sequencer.sequencer.log == l) && (k.sequencer.sequencer.epoch == epoch)
+serves l epoch k = (log_in k == l) && (epoch_in k == epoch)
 
 -- the place of the first that is
 abbrev pub place_in : ℕ → ℕ → List (List ℕ × Client) → Option ℕ

@@ -1,4 +1,4 @@
-// One sequencer of a run, which may have been dropped.
+// One sequencer of a run, or what is left of it.
 ghost use Rattle.std.specs.Prelude.{◌≡◌, true, false, Some, IfOk, OnOk};
 ghost use Rattle.ld_config.specs.declared.config.Config.{Config as Contents};
 ghost use Rattle.ld_msg.specs.Bounds.{IsMessage};
@@ -7,8 +7,9 @@ ghost use Rattle.ld_msg.specs.Sequencer.{appending, on_retry};
 ghost use Rattle.ld_machine.specs.Config.{looks_at};
 ghost use Rattle.ld_machine.specs.State.{State};
 ghost use Rattle.ld_machine.specs.Step.{on_live, append_done, trim_done, acted, to_live};
+ghost use Rattle.ld_clients.specs.declared.client.Client.TheVariants.{Gone};
 ghost use Rattle.ld_clients.specs.Acting.{IsNamed, HasActed, Stays};
-ghost use Rattle.ld_clients.specs.Serving.{shown, IsWhole, GoesOn};
+ghost use Rattle.ld_clients.specs.Serving.{shown, log_in, epoch_in, IsWholeIn, GoesOn};
 
 use crate::Outcome;
 use crate::report::{refused, told};
@@ -20,34 +21,49 @@ use ld_sequencer::Sequencer;
 use ld_transcript::Line;
 use std::alloc::Global;
 
-/// A sequencer, and whether it was dropped. One that was dropped does nothing more.
+/// A sequencer, or what is left of one that was dropped, which does nothing more.
 #[derive(Drop)]
-pub(crate) struct Client {
-    pub(crate) sequencer: Sequencer,
-    pub(crate) dropped: bool,
+pub(crate) enum Client {
+    /// It is at work.
+    Live(Sequencer),
+    /// It was dropped, and what it held was given back.
+    Gone {
+        /// The log that it was a sequencer of.
+        log: LogId,
+        /// The epoch that it was the sequencer of.
+        epoch: u32,
+    },
 }
 
 impl Client {
-    /// The log that it is a sequencer of.
+    /// The log that it is or was a sequencer of.
     pub(crate) fn log(&self) -> LogId
-        requires { IsWhole self.now.sequencer }
-        ensures { result ≡ self.now.sequencer.sequencer.log }
+        requires { IsWholeIn self.now }
+        ensures { result ≡ log_in self.now }
     {
-        self.sequencer.spec().log
+        match self {
+            Client::Live(sequencer) => sequencer.spec().log,
+            Client::Gone { log, .. } => *log,
+        }
     }
 
-    /// The epoch that it is the sequencer of.
+    /// The epoch that it is or was the sequencer of.
     pub(crate) fn epoch(&self) -> u32
-        ensures { result ≡ self.now.sequencer.sequencer.epoch }
+        ensures { result ≡ epoch_in self.now }
     {
-        self.sequencer.epoch()
+        match self {
+            Client::Live(sequencer) => sequencer.epoch(),
+            Client::Gone { epoch, .. } => *epoch,
+        }
     }
 
-    /// It is dropped, or was so before.
+    /// It is dropped, or was so before: what it holds is given back.
     pub(crate) fn retire(&mut self)
-        ensures { self.new ≡ record self.old { dropped = true } }
+        requires { IsWholeIn self.old }
+        ensures { self.new ≡ Gone (log_in self.old) (epoch_in self.old) }
     {
-        self.dropped = true;
+        let (log, epoch) = (self.log(), self.epoch());
+        *self = Client::Gone { log, epoch };
     }
 
     /// Numbers the payload and sends it, or writes why not.
@@ -57,18 +73,18 @@ impl Client {
         name: &Name,
         payload: &Payload,
     ) -> Result<Outcome, NoMemory>
-        requires { IsWhole self.old.sequencer }
+        requires { IsWholeIn self.old }
         ensures done { IfOk result (λ outcome. (c : Contents) (s : State) → IsNamed c s name.now self.old
             → HasActed s name.now self.new outcome (Stays s)
             (on_live s (Some (shown self.old)) (λ q. append_done s name.now q payload.now (appending q payload.now)))) }
         ensures goes_on { GoesOn self.old self.new }
     {
-        if self.dropped {
+        let Client::Live(sequencer) = self else {
             return Ok(Outcome::nothing(alloc));
-        }
+        };
         let mut sends = Outbox::empty(alloc);
         let copy = payload.copy(alloc)?;
-        match self.sequencer.append(alloc, copy, &mut sends) {
+        match sequencer.append(alloc, copy, &mut sends) {
             Ok(number) => {
                 let name = name.copy(alloc)?;
                 let outcome = Outcome::sent(alloc, Line::Appended { name, number }, sends)?;
@@ -83,16 +99,16 @@ impl Client {
 
     /// Tells all nodes of the configuration that all up to the point may go, or writes why not.
     pub(crate) fn trim(&self, alloc: Global, name: &Name, point: Lsn) -> Result<Outcome, NoMemory>
-        requires { IsWhole self.now.sequencer }
+        requires { IsWholeIn self.now }
         ensures { IfOk result (λ outcome. (c : Contents) (s : State) → IsNamed c s name.now self.now
             → HasActed s name.now self.now outcome (Stays s)
             (on_live s (Some (shown self.now)) (λ q. trim_done c s name.now q point))) }
     {
-        if self.dropped {
+        let Client::Live(sequencer) = self else {
             return Ok(Outcome::nothing(alloc));
-        }
+        };
         let mut sends = Outbox::empty(alloc);
-        match self.sequencer.trim(point, &mut sends) {
+        match sequencer.trim(point, &mut sends) {
             Ok(()) => {
                 let name = name.copy(alloc)?;
                 let outcome = Outcome::sent(alloc, Line::Trimmed { name, point }, sends)?;
@@ -113,18 +129,18 @@ impl Client {
         name: &Name,
         reg: &mut G,
     ) -> Result<Outcome, NoMemory>
-        requires { IsWhole self.old.sequencer }
+        requires { IsWholeIn self.old }
         ensures done { IfOk result (λ outcome. (c : Contents) (s : State) → IsNamed c s name.now self.old
-            → G.tells reg.old s.register → is_crowded s.register self.old.sequencer.sequencer.log ≡ false
+            → G.tells reg.old s.register → is_crowded s.register (log_in self.old) ≡ false
             → HasActed s name.now self.new outcome (G.tells reg.new)
             (on_live s (Some (shown self.old)) (λ q. acted c s name.now q (on_retry (looks_at c s.register q.log) q)))) }
         ensures goes_on { OnOk result (GoesOn self.old self.new) }
     {
-        if self.dropped {
+        let Client::Live(sequencer) = self else {
             return Ok(Outcome::nothing(alloc));
-        }
+        };
         let mut sends = Outbox::empty(alloc);
-        let answer = self.sequencer.retry(alloc, reg, &mut sends);
+        let answer = sequencer.retry(alloc, reg, &mut sends);
         let outcome = told(alloc, name, answer, sends)?;
         Ok(outcome)
     }
@@ -137,18 +153,18 @@ impl Client {
         msg: &Msg,
         reg: &mut G,
     ) -> Result<Outcome, NoMemory>
-        requires whole { IsWhole self.old.sequencer }
+        requires whole { IsWholeIn self.old }
         requires message { IsMessage msg.now }
         ensures done { IfOk result (λ outcome. (c : Contents) (s : State) → IsNamed c s name.now self.old
-            → G.tells reg.old s.register → is_crowded s.register self.old.sequencer.sequencer.log ≡ false
+            → G.tells reg.old s.register → is_crowded s.register (log_in self.old) ≡ false
             → HasActed s name.now self.new outcome (G.tells reg.new) (to_live c s name.now (shown self.old) msg.now)) }
         ensures goes_on { OnOk result (GoesOn self.old self.new) }
     {
-        if self.dropped {
+        let Client::Live(sequencer) = self else {
             return Ok(Outcome::nothing(alloc));
-        }
+        };
         let mut sends = Outbox::empty(alloc);
-        let answer = self.sequencer.on_reply(alloc, msg, reg, &mut sends);
+        let answer = sequencer.on_reply(alloc, msg, reg, &mut sends);
         let outcome = told(alloc, name, answer, sends)?;
         Ok(outcome)
     }

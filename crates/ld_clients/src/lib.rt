@@ -6,12 +6,16 @@ mod lines;
 mod lookup;
 mod outcome;
 mod places;
+#[cfg(test)]
+mod reader_tests;
 mod readers;
 mod reads;
 mod report;
-mod sequencers;
 #[cfg(test)]
-mod tests;
+mod scene;
+#[cfg(test)]
+mod sequencer_tests;
+mod sequencers;
 
 pub use lookup::find_spec;
 pub use outcome::Outcome;

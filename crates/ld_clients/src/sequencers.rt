@@ -11,8 +11,9 @@ ghost use Rattle.ld_machine.specs.Config.{has_log};
 ghost use Rattle.ld_machine.specs.Step.{happens, spec_set, to_sequencer, to_live};
 ghost use Rattle.ld_register.specs.Bounds.{IsSpecFor};
 ghost use Rattle.ld_clients.specs.declared.client.Client.{Client as Seen};
+ghost use Rattle.ld_clients.specs.declared.client.Client.TheVariants.{Live};
 ghost use Rattle.ld_clients.specs.Acting.{AreSequencers, IsActed, Stays};
-ghost use Rattle.ld_clients.specs.Serving.{serving_in, KnowTheirLogs, HasRoom, IsWhole, shown, sequencers_of};
+ghost use Rattle.ld_clients.specs.Serving.{serving_in, KnowTheirLogs, HasRoom, IsWhole, IsWholeIn, shown, sequencers_of};
 
 use crate::Outcome;
 use crate::client::Client;
@@ -34,7 +35,8 @@ use std::marker::Model;
 /// How many bytes a payload has at most.
 const PAYLOAD_LIMIT: usize = 65_535;
 
-/// Sequencers by name. After want of memory in a call they are of no use.
+/// Sequencers by name. Of one that was dropped only the name, the log and the epoch are kept. After want of memory in a call
+/// they are of no use.
 #[derive(Drop)]
 pub struct Sequencers {
     map: IndexMap<Name, Client>,
@@ -175,9 +177,9 @@ impl Sequencers {
         let Some(client) = self.map.get(name) else {
             return Ok(Outcome::nothing(alloc));
         };
-        if client.dropped {
+        let Client::Live(_) = client else {
             return Ok(Outcome::nothing(alloc));
-        }
+        };
         let line = Line::RefusedLong {
             name: name.copy(alloc)?,
             bytes: bytes as u64,
@@ -223,7 +225,7 @@ impl Sequencers {
         }
     }
 
-    /// The sequencer of the name is gone: from now on it does nothing, but its name stays taken.
+    /// The sequencer of the name is gone: it gives back what it held, and from now on it does nothing, but its name stays taken.
     pub fn drop(&mut self, alloc: Global, name: &Name) -> Outcome
         ensures done { (c : Contents) (s : State) → AreSequencers c s self.old
             → IsActed s self.new result (Stays s) (happens c s (Drops name.now)) }
@@ -268,7 +270,7 @@ impl Sequencers {
     ) -> Result<Outcome, NoMemory>
         requires whole { IsWhole sequencer }
         requires new { find_named name.now self.old ≡ None }
-        ensures sequencers { OnOk result (self.new ≡ put_named name.now (record { sequencer = sequencer; dropped = false }) self.old) }
+        ensures sequencers { OnOk result (self.new ≡ put_named name.now (Live sequencer) self.old) }
         ensures lines { IfOk result (λ outcome. outcome.lines.items ≡ Active name.now sequencer.sequencer.epoch ∷ []) }
         ensures sends { IfOk result (λ outcome. outcome.sends ≡ sends) }
         ensures err { OnErr result (self.new ≡ self.old) }
@@ -279,18 +281,14 @@ impl Sequencers {
         };
         let outcome = Outcome::sent(alloc, line, sends)?;
         let taken = name.copy(alloc)?;
-        let client = Client {
-            sequencer,
-            dropped: false,
-        };
-        self.add(taken, client)?;
+        self.add(taken, Client::Live(sequencer))?;
         Ok(outcome)
     }
 
     /// A sequencer under a new name, the last in the order of activation. Without memory nothing changes.
     #[tactic(auto, unfolding(ld_table::specs::Named::put_named, ld_table::specs::Named::same))]
     fn add(&mut self, name: Name, client: Client) -> Result<(), NoMemory>
-        requires whole { IsWhole client.sequencer }
+        requires whole { IsWholeIn client }
         requires new { find_named name self.old ≡ None }
         ensures ok { OnOk result (self.new ≡ put_named name client self.old) }
         ensures err { OnErr result (self.new ≡ self.old) }

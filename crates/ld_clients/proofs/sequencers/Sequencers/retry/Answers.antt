@@ -4,8 +4,7 @@ use Rattle.ld_clients.specs.Acting.{IsActed}
 use Rattle.ld_machine.specs.Step.{happens}
 use Rattle.ld_schedule.specs.declared.event.Event.TheVariants.{Retry}
 use Rattle.ld_clients.proofs.Placing.{named, room_for, retry_nobody, retry_somebody}
-use Rattle.ld_clients.specs.declared.client.Client.{Client}
-use Rattle.ld_clients.specs.Serving.{Knows, KnowTheirLogs}
+use Rattle.ld_clients.specs.Serving.{KnowsIn, KnowTheirLogs}
 use Rattle.ld_clients.proofs.Names.{set_named_is_put, all_none}
 use Rattle.ld_clients.proofs.Serving.{know_after}
 use Rattle.ld_clients.proofs.Standing.{served_after, served_none}
@@ -40,4 +39,4 @@ unfolding find_named same
 returns-in-Ok-clause-logs g c = λ d k. know_after d c.args.name.now c.in-Some.client.now c.retry.new.self c.args.self.now (c.get_mut.follows.lender c.retry.new.self).entries (ap (find_named c.args.name.now) (sym c.self.view_is) ∙ sym c.in-Some.ensures.value) c.in-Ok.ensures.goes_on ((c.get_mut.follows.holds c.retry.new.self).0 ∙ (set_named_is_put c.args.name.now c.in-Some.client.now c.retry.new.self c.self.inside.map.entries (sym c.in-Some.ensures.value) ∙ ap (put_named c.args.name.now c.retry.new.self) c.self.view_is)) k
 
 pub returns-in-Err-clause-logs : goal.returns-in-Err-clause-logs
-returns-in-Err-clause-logs g c = λ d k. subst (KnowTheirLogs d) (sym c.clear.ensures.empty) (all_none (λ (x : Client). Knows d x.sequencer))
+returns-in-Err-clause-logs g c = λ d k. subst (KnowTheirLogs d) (sym c.clear.ensures.empty) (all_none (KnowsIn d))

@@ -1,13 +1,14 @@
-// Sequencers and readers of a log with each record on two nodes. The configuration has the nodes 1 to 4, and gives the log the
-// first three. What a call wrote is compared as the text of its lines, and what it sent as a letter and a node for each message: `s` stores, `r` releases, `t` trims, `c` tells that an
-// epoch is closed, `d` asks for a digest, `a` asks for what may be read, `o` asks for one copy of it.
+// Sequencers and readers of a log with each record on two nodes, and what their calls do. The configuration has the nodes 1 to 4,
+// and gives the log the first three. What a call wrote is compared as the text of its lines, and what it sent as a letter and a
+// node for each message: `s` stores, `r` releases, `t` trims, `c` tells that an epoch is closed, `d` asks for a digest, `a` asks
+// for what may be read, `o` asks for one copy of it.
 ghost use Rattle.std.specs.Prelude.{◌≡◌, IfOk};
 ghost use Rattle.ld_config.specs.Bounds.{IsInBounds};
 ghost use Rattle.ld_msg.specs.declared.msg.Who.TheVariants.{Reader as OfReader};
 ghost use Rattle.ld_msg.specs.Bounds.{IsMessage};
 ghost use Rattle.ld_register.specs.Bounds.{IsSpec};
 
-use crate::{Outcome, Readers, Sequencers, find_spec};
+use crate::{Outcome, Readers, Sequencers};
 use ld_batch::Messages;
 use ld_config::Config;
 use ld_disk::MemDisk;
@@ -17,17 +18,16 @@ use ld_msg::{Body, Msg, Outbox, Style, Who};
 use ld_register::{DiskRegister, Register};
 use ld_transcript::{Line, write};
 use std::alloc::Global;
-use std::test::Fail;
 
 const CONFIG: &[u8] = br#"{"nodes":[1,2,3,4],"logs":[{"id":7,"set":[1,2,3],"r":2,"extras":0}]}"#;
 
 // The first three nodes, and two others: bit n - 1 stands for node n.
-const FIRST: u16 = 0b0111;
+pub(crate) const FIRST: u16 = 0b0111;
 
-const OTHERS: u16 = 0b1010;
+pub(crate) const OTHERS: u16 = 0b1010;
 
 // The log's configuration.
-fn four_nodes(alloc: Global) -> Result<Config, NoMemory>
+pub(crate) fn four_nodes(alloc: Global) -> Result<Config, NoMemory>
     ensures { IfOk result IsInBounds }
 {
     match Config::read(alloc, CONFIG) {
@@ -48,7 +48,7 @@ fn named(alloc: Global, text: &[u8]) -> Result<Name, NoMemory> {
     Ok(Name::new(Vec::from_slice(alloc, text)?))
 }
 
-fn log(number: u32) -> Result<LogId, NoMemory> {
+pub(crate) fn log(number: u32) -> Result<LogId, NoMemory> {
     match LogId::new(number) {
         Some(log) => Ok(log),
         None => Err(NoMemory),
@@ -247,7 +247,7 @@ fn stored(node: u8) -> Result<Msg, NoMemory>
 // What a node says of the first place of epoch 1: all up to the place 9 is trimmed, or the epoch ends there, and what follows
 // is lost or isn't.
 #[derive(Clone, Copy)]
-enum Says {
+pub(crate) enum Says {
     Trimmed,
     Ended { loss: bool },
 }
@@ -287,15 +287,15 @@ fn said(says: Says) -> Result<Msg, NoMemory>
 
 // Sequencers and readers on one register.
 #[derive(Drop)]
-struct Scene {
-    sequencers: Sequencers,
+pub(crate) struct Scene {
+    pub(crate) sequencers: Sequencers,
     readers: Readers,
     reg: DiskRegister<MemDisk>,
 }
 
 // What is done.
 #[derive(Clone, Copy)]
-enum Does {
+pub(crate) enum Does {
     // A sequencer of the name of this letter is activated with these nodes.
     Activate(u8, u16),
     // `s` numbers three bytes.
@@ -316,9 +316,9 @@ enum Does {
 }
 
 // A step: what is done, the lines that it writes, and the messages that it sends.
-type Step = (Does, &'static [u8], &'static [u8]);
+pub(crate) type Step = (Does, &'static [u8], &'static [u8]);
 
-fn begin(alloc: Global) -> Result<Scene, NoMemory> {
+pub(crate) fn begin(alloc: Global) -> Result<Scene, NoMemory> {
     Ok(Scene {
         sequencers: Sequencers::new(alloc),
         readers: Readers::new(alloc),
@@ -326,7 +326,7 @@ fn begin(alloc: Global) -> Result<Scene, NoMemory> {
     })
 }
 
-fn activates(
+pub(crate) fn activates(
     alloc: Global,
     scene: &mut Scene,
     letter: u8,
@@ -411,7 +411,7 @@ fn shows(
 }
 
 // How many steps, from the first one on, write their lines and send their messages.
-fn as_told(alloc: Global, steps: &[Step]) -> Result<usize, NoMemory> {
+pub(crate) fn as_told(alloc: Global, steps: &[Step]) -> Result<usize, NoMemory> {
     let mut scene = begin(alloc)?;
     for (place, step) in steps.iter().enumerate() {
         let (does, lines, sends) = *step;
@@ -421,184 +421,4 @@ fn as_told(alloc: Global, steps: &[Step]) -> Result<usize, NoMemory> {
         }
     }
     Ok(steps.len())
-}
-
-// Whether the sequencer of epoch 1 has this name, once `s` is activated.
-fn serves(alloc: Global, name: &[u8]) -> Result<bool, NoMemory> {
-    let mut scene = begin(alloc)?;
-    activates(alloc, &mut scene, b's', FIRST)?;
-    match scene.sequencers.name_of(log(7)?, 1) {
-        Some(found) => Ok(found.bytes() == name),
-        None => Ok(false),
-    }
-}
-
-// On how many nodes a record of the log is stored, 0 where the log is none of the configuration's.
-fn factor(alloc: Global, number: u32) -> Result<u8, NoMemory> {
-    match find_spec(&four_nodes(alloc)?, log(number)?) {
-        Some(spec) => Ok(spec.r),
-        None => Ok(0),
-    }
-}
-
-#[test]
-fn a_log_is_found_by_its_number(rt: HostRuntime) -> Result<(), Fail> {
-    let alloc = rt.alloc();
-    assert!(rt; factor(alloc, 7)? == 2);
-    assert!(rt; factor(alloc, 8)? == 0);
-    Ok(())
-}
-
-// `s` is activated with the log's first nodes.
-const ACTIVE: Step = (Does::Activate(b's', FIRST), b"active s 1\n", b"");
-
-const APPENDED: Step = (Does::Append, b"appended s e1n1\n", b"s3s1");
-
-const OPENED: Step = (Does::Open(Style::EachCopy), b"", b"");
-
-const POLLED: Step = (Does::Poll, b"", b"a1a2a3");
-
-// A reader that is finished asks nobody.
-const FINISHED: Step = (Does::Poll, b"", b"");
-
-#[test]
-fn a_sequencer_is_found_by_its_epoch(rt: HostRuntime) -> Result<(), Fail> {
-    let alloc = rt.alloc();
-    assert!(rt; serves(alloc, b"s")?);
-    Ok(())
-}
-
-const TRIMMED: &[Step] = &[ACTIVE, (Does::Trim, b"trimmed s e1n0\n", b"t1t2t3t4")];
-
-#[test]
-fn a_trim_tells_all_nodes(rt: HostRuntime) -> Result<(), Fail> {
-    let alloc = rt.alloc();
-    assert_eq!(rt; as_told(alloc, TRIMMED)?, TRIMMED.len());
-    Ok(())
-}
-
-const ACKNOWLEDGED: &[Step] = &[
-    ACTIVE,
-    APPENDED,
-    (Does::Stored(1), b"", b""),
-    (
-        Does::Stored(2),
-        b"acked s e1n1\nreleased s e1n1\n",
-        b"r1r2r3",
-    ),
-];
-
-#[test]
-fn the_second_node_acknowledges(rt: HostRuntime) -> Result<(), Fail> {
-    let alloc = rt.alloc();
-    assert_eq!(rt; as_told(alloc, ACKNOWLEDGED)?, ACKNOWLEDGED.len());
-    Ok(())
-}
-
-const RETRIED: &[Step] = &[ACTIVE, APPENDED, (Does::Retry, b"", b"s1s2")];
-
-#[test]
-fn a_retry_goes_to_the_next_wave(rt: HostRuntime) -> Result<(), Fail> {
-    let alloc = rt.alloc();
-    assert_eq!(rt; as_told(alloc, RETRIED)?, RETRIED.len());
-    Ok(())
-}
-
-// The name of a dropped sequencer stays taken.
-const DROPPED: &[Step] = &[
-    ACTIVE,
-    (Does::Drop, b"", b""),
-    (Does::Append, b"", b""),
-    (Does::Activate(b's', FIRST), b"", b""),
-];
-
-#[test]
-fn a_dropped_sequencer_does_nothing_more(rt: HostRuntime) -> Result<(), Fail> {
-    let alloc = rt.alloc();
-    assert_eq!(rt; as_told(alloc, DROPPED)?, DROPPED.len());
-    Ok(())
-}
-
-// A batch is one payload, at most as long as one may be.
-const BATCHED: &[Step] = &[
-    ACTIVE,
-    (Does::Batch(65_532), b"refused s long 65536\n", b""),
-    (Does::Batch(65_531), b"appended s e1n1\n", b"s3s1"),
-];
-
-#[test]
-fn a_batch_is_appended_as_one_payload(rt: HostRuntime) -> Result<(), Fail> {
-    let alloc = rt.alloc();
-    assert_eq!(rt; as_told(alloc, BATCHED)?, BATCHED.len());
-    Ok(())
-}
-
-// The first poll of a number asks for one copy of it, the second for all.
-const ONE_COPY: &[Step] = &[
-    (Does::Open(Style::OneCopy), b"", b""),
-    (Does::Poll, b"", b"o1o2o3"),
-    (Does::Poll, b"", b"a1a2a3"),
-];
-
-#[test]
-fn one_copy_is_asked_for_first(rt: HostRuntime) -> Result<(), Fail> {
-    let alloc = rt.alloc();
-    assert_eq!(rt; as_told(alloc, ONE_COPY)?, ONE_COPY.len());
-    Ok(())
-}
-
-const TRIM: &[Step] = &[
-    OPENED,
-    POLLED,
-    (Does::Say(Says::Trimmed), b"gap d trim e1n1 e1n4\n", b""),
-    FINISHED,
-];
-
-const BRIDGE: &[Step] = &[
-    OPENED,
-    POLLED,
-    (
-        Does::Say(Says::Ended { loss: false }),
-        b"gap d bridge e1n1 e1n4\n",
-        b"",
-    ),
-    FINISHED,
-];
-
-const LOSS: &[Step] = &[
-    OPENED,
-    POLLED,
-    (
-        Does::Say(Says::Ended { loss: true }),
-        b"gap d dataloss e1n1 e1n4\n",
-        b"",
-    ),
-    FINISHED,
-];
-
-#[test]
-fn a_gap_ends_at_the_last_number_that_is_wanted(rt: HostRuntime) -> Result<(), Fail> {
-    let alloc = rt.alloc();
-    assert_eq!(rt; as_told(alloc, TRIM)?, TRIM.len());
-    assert_eq!(rt; as_told(alloc, BRIDGE)?, BRIDGE.len());
-    assert_eq!(rt; as_told(alloc, LOSS)?, LOSS.len());
-    Ok(())
-}
-
-// The next epoch's sequencer asks the nodes of the one before, whatever its own are.
-const ELSEWHERE: &[Step] = &[
-    (Does::Activate(b's', OTHERS), b"active s 1\n", b""),
-    (Does::Append, b"appended s e1n1\n", b"s2s4"),
-    OPENED,
-    (Does::Poll, b"", b"a2a4"),
-    (Does::Activate(b't', FIRST), b"active t 2\n", b"d2d4"),
-];
-
-#[test]
-fn an_epoch_is_written_and_read_on_the_nodes_that_were_fixed_for_it(
-    rt: HostRuntime,
-) -> Result<(), Fail> {
-    let alloc = rt.alloc();
-    assert_eq!(rt; as_told(alloc, ELSEWHERE)?, ELSEWHERE.len());
-    Ok(())
 }

@@ -1,7 +1,7 @@
 use Rattle.std.proofs.Common.{◌≡◌, ◌<◌, ◌^◌, ◌++◌, ◌∷◌, [], length, sym, ap, subst, arith}
 use Rattle.ld_batch.specs.Batch.{packed}
 use Rattle.ld_batch.proofs.Packing.{length-packed-none, length-packed-push}
-use Rattle.ld_clients.proofs.tests.batches.Goals as goal
+use Rattle.ld_clients.proofs.scene.batches.Goals as goal
 
 pub push-requires : goal.push-requires
 push-requires c = subst (λ ms. length (packed (ms ++ c.new.result ∷ [])) < 2 ^ 64) (sym c.empty-messages.ensures)
