@@ -2,6 +2,7 @@ mod Appending
 mod Clients
 mod Crowding
 mod Ending
+mod Filling
 mod Keeping
 mod Rounding
 mod Saying

@@ -10,6 +10,7 @@ use Rattle.ld_msg.specs.Sequencer.{Sequencer}
 use Rattle.ld_msg.specs.declared.msg.Msg.{Msg}
 use Rattle.ld_msg.specs.Register.{Register, is_crowded}
 use Rattle.ld_ids.specs.declared.set.Spec.{Spec}
+use Rattle.ld_register.specs.Calls.{is_full, activation_length, close_length}
 use Rattle.ld_sequencer.specs.Whole.{Whole, is_settled}
 use Rattle.ld_machine.specs.Config.{first_spec, has_log}
 use Rattle.ld_machine.specs.State.{State}
@@ -75,16 +76,24 @@ settled_in (Some w) = is_settled w
 
 -- ---- why the register refused ----
 
--- what calls leave of how the drive ends, which is kept, and of the register, with its counts of faults before and now. Once it is kept no call is made of the register any more. Until then no call of it failed, and one that held something does so still. At the end it refused since a call failed, or without a fault: it is damaged only where it held nothing before
+-- it holds something
+abbrev pub HoldsSome : (Register → Type 0) → Type 0
+HoldsSome holds = (c : Register) × holds c
+
+-- what it holds leaves no room for an activation, or none for a close
+abbrev pub LacksRoom : (Register → Type 0) → Type 0
+LacksRoom holds = (c : Register) × holds c × ((is_full c activation_length ≡ true) ⊎ (is_full c close_length ≡ true))
+
+-- what calls leave of how the drive ends, which is kept, and of the register, with its counts of faults before and now. Once it is kept no call is made of the register any more. Until then no call of it failed, and one that held something does so still. At the end it refused since a call failed, or without a fault: it is damaged only where it held nothing before, and where it held something it is full of what it holds
 pub record HasKept (end_old end_new : Option Ended) (holds_old holds_new : Register → Type 0) (faults_old faults_new : ℕ) : Type 0 where
-  pub stays : (e : Ended) → end_old ≡ Some e → (end_new ≡ Some e) × (faults_new ≡ faults_old)
-  pub refused : end_old ≡ None → (r : Refusal) → end_new ≡ Some (ends.Register r) → IsRefusal (λ place. (faults_new ≡ faults_old) × HeldNone holds_old place) (faults_new ≡ faults_old) faults_old faults_new r
+  pub stays : (e : Ended) → end_old ≡ Some e → (end_new ≡ Some e) × (faults_new ≡ faults_old) × ((c : Register) → holds_old c → holds_new c)
+  pub refused : end_old ≡ None → (r : Refusal) → end_new ≡ Some (ends.Register r) → IsRefusal (λ place. (faults_new ≡ faults_old) × HeldNone holds_old place) ((faults_new ≡ faults_old) × (HoldsSome holds_old → LacksRoom holds_new)) faults_old faults_new r
   pub on : end_new ≡ None → (faults_new ≡ faults_old) × ((c : Register) → holds_old c → (d : Register) × holds_new d)
   pub counts : faults_old ≤ faults_new
 
 pub kept_here : (end : Option Ended) (holds : Register → Type 0) (faults : ℕ) → HasKept end end holds holds faults faults
 kept_here end holds faults = record {
-  stays = λ e h. (h, refl);
+  stays = λ e h. (h, refl, λ c x. x);
   refused = λ none r h. let x : None ≡ Some (ends.Register r) = sym none ∙ h in absurd cc;
   on = λ h. (refl, λ c x. (c, x));
   counts = omega arith;
@@ -99,22 +108,22 @@ same_end : (x y : Ended) → Some x ≡ Some y → x ≡ y
 same_end x y h = cc
 
 module _ (end_a end_b end_c : Option Ended) (holds_a holds_b holds_c : Register → Type 0) (faults_a faults_b faults_c : ℕ) (p : HasKept end_a end_b holds_a holds_b faults_a faults_b) (q : HasKept end_b end_c holds_b holds_c faults_b faults_c) where
-  stays_on : (e : Ended) → end_a ≡ Some e → (end_c ≡ Some e) × (faults_c ≡ faults_a)
+  stays_on : (e : Ended) → end_a ≡ Some e → (end_c ≡ Some e) × (faults_c ≡ faults_a) × ((c : Register) → holds_a c → holds_c c)
   stays_on e h =
       let x = p.stays e h in
       let y = q.stays e x.0 in
-      (y.0, y.1 ∙ x.1)
+      (y.0, y.1 ∙ x.1, λ c h. y.2 c (x.2 c h))
 
-  refused_on : (o : Option Ended) → end_b ≡ o → end_a ≡ None → (r : Refusal) → end_c ≡ Some (ends.Register r) → IsRefusal (λ place. (faults_c ≡ faults_a) × HeldNone holds_a place) (faults_c ≡ faults_a) faults_a faults_c r
+  refused_on : (o : Option Ended) → end_b ≡ o → end_a ≡ None → (r : Refusal) → end_c ≡ Some (ends.Register r) → IsRefusal (λ place. (faults_c ≡ faults_a) × HeldNone holds_a place) ((faults_c ≡ faults_a) × (HoldsSome holds_a → LacksRoom holds_c)) faults_a faults_c r
   refused_on None b a r h =
       let on = p.on b in
-      refusal_as (λ place. (faults_c ≡ faults_b) × HeldNone holds_b place) (λ place. (faults_c ≡ faults_a) × HeldNone holds_a place) (faults_c ≡ faults_b) (faults_c ≡ faults_a) faults_a faults_b faults_c faults_c r (λ x. subst (λ n. Rose n faults_c) on.0 x)
-      (λ place x. (x.0 ∙ on.0, λ c held. x.1 (on.1 c held).0 (on.1 c held).1)) (λ x. x ∙ on.0) (q.refused b r h)
+      refusal_as (λ place. (faults_c ≡ faults_b) × HeldNone holds_b place) (λ place. (faults_c ≡ faults_a) × HeldNone holds_a place) ((faults_c ≡ faults_b) × (HoldsSome holds_b → LacksRoom holds_c)) ((faults_c ≡ faults_a) × (HoldsSome holds_a → LacksRoom holds_c)) faults_a faults_b faults_c faults_c r (λ x. subst (λ n. Rose n faults_c) on.0 x)
+      (λ place x. (x.0 ∙ on.0, λ c held. x.1 (on.1 c held).0 (on.1 c held).1)) (λ x. (x.0 ∙ on.0, λ held. x.1 (on.1 held.0 held.1))) (q.refused b r h)
   refused_on (Some e) b a r h =
       let x = q.stays e b in
       let same : e ≡ ends.Register r = same_end e (ends.Register r) (sym x.0 ∙ h) in
-      refusal_as (λ place. (faults_b ≡ faults_a) × HeldNone holds_a place) (λ place. (faults_c ≡ faults_a) × HeldNone holds_a place) (faults_b ≡ faults_a) (faults_c ≡ faults_a) faults_a faults_a faults_b faults_c r (λ y. subst (λ n. Rose faults_a n) (sym x.1) y)
-      (λ place y. (x.1 ∙ y.0, y.1)) (λ y. x.1 ∙ y) (p.refused a r (b ∙ ap (λ (z : Ended). Some z) same))
+      refusal_as (λ place. (faults_b ≡ faults_a) × HeldNone holds_a place) (λ place. (faults_c ≡ faults_a) × HeldNone holds_a place) ((faults_b ≡ faults_a) × (HoldsSome holds_a → LacksRoom holds_b)) ((faults_c ≡ faults_a) × (HoldsSome holds_a → LacksRoom holds_c)) faults_a faults_a faults_b faults_c r (λ y. subst (λ n. Rose faults_a n) (sym x.1) y)
+      (λ place y. (x.1 ∙ y.0, y.1)) (λ y. (x.1 ∙ y.0, λ held. let full = y.1 held in (full.0, x.2 full.0 full.1, full.2))) (p.refused a r (b ∙ ap (λ (z : Ended). Some z) same))
 
   on_on : (o : Option Ended) → end_b ≡ o → end_c ≡ None → (faults_c ≡ faults_a) × ((c : Register) → holds_a c → (d : Register) × holds_c d)
   on_on None b h =

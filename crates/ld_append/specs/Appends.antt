@@ -45,7 +45,7 @@ IsEndOfAppend crowded damaged coming input_before input_now before now old new e
 IsEndOfAppend crowded damaged coming input_before input_now before now old new ends.LogLimit = crowded
 IsEndOfAppend crowded damaged coming input_before input_now before now old new ended = IsDriveEnding crowded damaged coming input_before input_now before now old new ended
 
--- why the register refused, where it ends by that, by the register's counts of faults before and now: a call of it failed; or none did, and it was damaged from that place on, or whole and without room
+-- why the register refused, where it ends by that, by the register's counts of faults before and now: a call of it failed; or none did, and it was damaged from that place on, or whole and is without room
 abbrev pub IsRefused : (ℕ → Type 0) → Type 0 → ℕ → ℕ → Ended → Type 0
 IsRefused damaged whole before now (ends.Register refusal) = IsRefusal (λ place. (now ≡ before) × damaged place) ((now ≡ before) × whole) before now refusal
 IsRefused damaged whole before now _ = Unit {0}

@@ -2,7 +2,6 @@
 ghost use Rattle.std.specs.Prelude.{ℕ, ◌≡◌, ◌==◌, ◌&&◌, ◌≢◌, ◌⊎◌, [], ◌∷◌, true, false, None, Some, IfOk, IfSome, OnOk};
 ghost use Rattle.ld_config.specs.declared.config.Config.{Config as Contents};
 ghost use Rattle.ld_config.specs.Bounds.{IsInBounds};
-ghost use Rattle.ld_msg.specs.Register.{Register as Held};
 ghost use Rattle.ld_register.specs.Bounds.{IsSpec};
 ghost use Rattle.ld_schedule.specs.declared.event.Event.TheVariants.{Activate, Append, Retry};
 ghost use Rattle.ld_machine.specs.State.{State};
@@ -12,7 +11,7 @@ ghost use Rattle.ld_rounds.specs.Acts.{IsActed};
 ghost use Rattle.ld_node_bounds.specs.Messages.{AreMessages};
 ghost use Rattle.ld_rounds.specs.Ends.{IsSaid};
 ghost use Rattle.ld_rounds.specs.Rounds.{tells_full};
-ghost use Rattle.ld_append.specs.Acting.{Serves, IsTo, is_to, IsSpecOf, IsUnset, settled_in, MayCrowd, Leaves, IsSince, IsOfLog, HasBegun, HasKept};
+ghost use Rattle.ld_append.specs.Acting.{Serves, IsTo, is_to, IsSpecOf, IsUnset, settled_in, MayCrowd, Leaves, IsSince, IsOfLog, HasBegun, HasKept, HoldsSome, LacksRoom};
 ghost use Rattle.ld_append.specs.Refusing.{fault_end, start_lines, going, IsTold, IsStartTold};
 ghost use Rattle.ld_append.specs.Appends.{IsRefused};
 
@@ -174,7 +173,7 @@ impl<G: Register> Acting<G> {
         ensures shut { self.new.is_shut ≡ self.old.is_shut }
         ensures crowded { IfOk result (λ heard. heard.end ≡ Some Ended.LogLimit → G.told self.old.register → MayCrowd (G.may_hold self.old.register) spec.now.log) }
         ensures damaged { IfOk result (λ heard. (place : ℕ) → heard.end ≡ Some (Ended.Register (Refusal.Damaged place)) → G.told self.old.register → G.damaged self.old.register place) }
-        ensures refused { IfOk result (λ heard. IfSome heard.end (IsRefused (λ place. G.told self.old.register → G.damaged self.old.register place) (G.told self.old.register → (c : Held) × G.holds self.old.register c) (G.faults self.old.register) (G.faults self.new.register))) }
+        ensures refused { IfOk result (λ heard. IfSome heard.end (IsRefused (λ place. G.told self.old.register → G.damaged self.old.register place) (G.told self.old.register → HoldsSome (G.holds self.old.register) × LacksRoom (G.holds self.new.register)) (G.faults self.old.register) (G.faults self.new.register))) }
         // Where it is active no call of the register failed, and one that tells holds something, before and then.
         ensures on { self.old.end ≡ None → HasBegun self.new.end (G.told self.old.register) (G.holds self.old.register) (G.holds self.new.register) (G.faults self.old.register) (G.faults self.new.register) }
     {

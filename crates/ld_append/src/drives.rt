@@ -2,14 +2,13 @@
 ghost use Rattle.std.specs.Prelude.{◌≡◌, ◌⊎◌, ℕ, Option, true, false, None, IfErr, OnOk};
 ghost use Rattle.ld_config.specs.Bounds.{IsInBounds};
 ghost use Rattle.ld_schedule.specs.declared.event.Event.TheVariants.{Activate};
-ghost use Rattle.ld_msg.specs.Register.{Register as Contents};
 ghost use Rattle.ld_machine.specs.State.{State};
 ghost use Rattle.ld_wire.specs.declared.fault.WireFault.{WireFault as FrameFault};
 ghost use Rattle.ld_dial.specs.Far.{Far};
 ghost use Rattle.ld_rounds.specs.Drives.{Holds, GoesOn, IsBroken};
 ghost use Rattle.ld_rounds.specs.Endings.{IsLater, IsOffAs};
 ghost use Rattle.ld_register.specs.Bounds.{IsSpec};
-ghost use Rattle.ld_append.specs.Acting.{Serves, IsSpecOf, IsUnset, MayCrowd, Leaves, IsOfLog, HasBegun};
+ghost use Rattle.ld_append.specs.Acting.{Serves, IsSpecOf, IsUnset, MayCrowd, Leaves, IsOfLog, HasBegun, HoldsSome, LacksRoom};
 ghost use Rattle.ld_rounds.specs.Reaching.{Begins};
 ghost use Rattle.ld_rounds.specs.Rounds.{IsOne, IsBegun};
 ghost use Rattle.ld_append.specs.Appends.{HasNone, sequencing, IsAppended, DroveAppend, IsStartEnding, IsDriveEnding, IsEndOfAppend, IsRefused, taken_end};
@@ -43,7 +42,7 @@ fn start<G: Register, O: Sink>(
     ensures shut { acting.new.is_shut ≡ acting.old.is_shut }
     ensures cause { IfErr result (IsStartEnding (G.told acting.old.register → MayCrowd (G.may_hold acting.old.register) spec.now.log) (λ place. G.told acting.old.register → G.damaged acting.old.register place) (O.faults out.old) (O.faults out.new) (O.written out.old) (O.written out.new)) }
     ensures off { (off : Option FrameFault) → IfErr result (IsOffAs off) }
-    ensures refused { IfErr result (IsRefused (λ place. G.told acting.old.register → G.damaged acting.old.register place) (G.told acting.old.register → (c : Contents) × G.holds acting.old.register c) (G.faults acting.old.register) (G.faults acting.new.register)) }
+    ensures refused { IfErr result (IsRefused (λ place. G.told acting.old.register → G.damaged acting.old.register place) (G.told acting.old.register → HoldsSome (G.holds acting.old.register) × LacksRoom (G.holds acting.new.register)) (G.faults acting.old.register) (G.faults acting.new.register)) }
     ensures on { acting.old.end ≡ None → HasBegun acting.new.end (G.told acting.old.register) (G.holds acting.old.register) (G.holds acting.new.register) (G.faults acting.old.register) (G.faults acting.new.register) }
     ensures later { IsLater (O.faults out.old) (O.faults out.new) (O.written out.old) (O.written out.new) }
 {
@@ -74,7 +73,7 @@ fn drive<G: Register, N: Nodes, P: Payloads, O: Sink>(
     ensures itself { P.identity input.new ≡ P.identity input.old }
     ensures cause { IfErr result (IsDriveEnding (G.told acting.old.register → MayCrowd (G.may_hold acting.old.register) spec.now.log) (λ place. G.told acting.old.register → G.damaged acting.old.register place) (P.coming input.old) (P.faults input.old) (P.faults input.new) (O.faults out.old) (O.faults out.new) (O.written out.old) (O.written out.new)) }
     ensures off { IfErr result (IsOffAs (N.off nodes.new)) }
-    ensures refused { acting.old.end ≡ None → IfErr result (IsRefused (λ place. G.told acting.old.register → G.damaged acting.old.register place) (G.told acting.old.register → (c : Contents) × G.holds acting.old.register c) (G.faults acting.old.register) (G.faults acting.new.register)) }
+    ensures refused { acting.old.end ≡ None → IfErr result (IsRefused (λ place. G.told acting.old.register → G.damaged acting.old.register place) (G.told acting.old.register → HoldsSome (G.holds acting.old.register) × LacksRoom (G.holds acting.new.register)) (G.faults acting.old.register) (G.faults acting.new.register)) }
 {
     let Ok(mut queues) = Queues::new(alloc) else {
         return Err(Ended::NoMemory);
@@ -135,8 +134,8 @@ pub fn append<G: Register, N: Nodes, P: Payloads, O: Sink>(
     ensures off { IsOffAs (N.off nodes.new) result.0 }
     // It ends with `Register` and `Failed` only where a call of the register failed. Where none failed and the register tells what
     // it holds, it ends with `Register` and `Damaged` only where that was damaged from that place on, and with `Register` and
-    // `Full` only where it wasn't.
-    ensures refused { IsRefused (λ place. G.told register → G.damaged register place) (G.told register → (c : Contents) × G.holds register c) (G.faults register) (G.faults result.1) result.0 }
+    // `Full` only where it wasn't, and where what it holds then leaves no room for an activation or a close.
+    ensures refused { IsRefused (λ place. G.told register → G.damaged register place) (G.told register → HoldsSome (G.holds register) × LacksRoom (G.holds result.1)) (G.faults register) (G.faults result.1) result.0 }
 {
     let Ok(its_name) = name.copy(alloc) else {
         return (Ended::NoMemory, register);

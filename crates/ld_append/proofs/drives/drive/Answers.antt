@@ -3,7 +3,6 @@ use Rattle.std.specs.Prelude.{Result, Bool, Option, IfErr}
 use Rattle.std.proofs.lemmas.Result.{err_from_is_err_and}
 use Rattle.ld_ids.specs.Set.{members}
 use Rattle.ld_msg.specs.declared.msg.Msg.{Msg}
-use Rattle.ld_msg.specs.Register.{Register as Contents}
 use Rattle.ld_rounds.specs.declared.ended.Ended.{Ended}
 use Rattle.ld_rounds.specs.declared.ended.Ended.TheVariants as ends
 use Rattle.ld_rounds.specs.Acts.{Own}
@@ -14,7 +13,7 @@ use Rattle.ld_rounds.proofs.Joining.{feeds_here, feeds_until}
 use Rattle.ld_append.specs.Appends.{EndAt, DroveAppend, IsDriveEnding, IsRefused, sequencing}
 use Rattle.ld_rounds.proofs.Going.{whatever, stopped_here}
 use Rattle.ld_append.proofs.Crowding.{shut_so, leaves_so}
-use Rattle.ld_append.specs.Acting.{Serves, takes, MayCrowd, leaves_here}
+use Rattle.ld_append.specs.Acting.{Serves, takes, MayCrowd, HoldsSome, LacksRoom, leaves_here}
 use Rattle.ld_append.proofs.Appending.{begun, start_as, stopped_append, drove_loud}
 use Rattle.ld_append.proofs.Ending.{rounds_cause}
 use Rattle.ld_append.proofs.Keeping.{refused_since}
@@ -125,7 +124,7 @@ returns-clause-refused g c none =
     let y = c.append-driven.new.sequencer in
     let told = g.G.Register.told a.register in
     let damaged = λ (place : ℕ). told → g.G.Register.damaged a.register place in
-    let whole = told → (k : Contents) × g.G.Register.holds a.register k in
+    let whole = told → HoldsSome (g.G.Register.holds a.register) × LacksRoom (g.G.Register.holds y.register) in
     subst (λ (x : Result Bool Ended). IfErr x (IsRefused damaged whole (g.G.Register.faults a.register) (g.G.Register.faults y.register))) (sym (ended_round c.end.result y.end c.append-driven.result c.round_end.result c.end.ensures c.round_end.ensures))
     (round_refused damaged whole (g.G.Register.faults a.register) (g.G.Register.faults y.register) y.end c.append-driven.result
     (λ r h. refused_since (g.G.Register.damaged a.register) told (g.G.Register.holds a.register) (g.G.Register.holds z.register) (g.G.Register.holds y.register) (g.G.Register.faults a.register) (g.G.Register.faults z.register) (g.G.Register.faults y.register) z.end y.end (c.in_ok-start.ensures.on none) c.append-driven.ensures.since.2 r h))

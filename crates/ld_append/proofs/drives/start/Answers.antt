@@ -1,9 +1,8 @@
 use Rattle.std.proofs.Common.{refl, inl, None}
 use Rattle.ld_schedule.specs.declared.event.Event.TheVariants.{Activate}
-use Rattle.ld_msg.specs.Register.{Register as Contents}
 use Rattle.ld_rounds.specs.Rounds.{IsBegun}
 use Rattle.ld_rounds.proofs.Going.{stopped_here}
-use Rattle.ld_append.specs.Acting.{MayCrowd}
+use Rattle.ld_append.specs.Acting.{MayCrowd, HoldsSome, LacksRoom}
 use Rattle.ld_append.specs.Appends.{sequencing}
 use Rattle.ld_append.proofs.Appending.{started_on}
 use Rattle.ld_append.proofs.Ending.{start_cause, start_off, start_unframed}
@@ -27,7 +26,7 @@ returns-clause-started g c none first s far b is unset h =
     c.args.spec.now.log (c.in-Ok.ensures.activated none s b is unset h.sound h.actor)
 
 pub returns-clause-refused : goal.returns-clause-refused
-returns-clause-refused g c = told_refused (λ place. g.G.Register.told c.args.acting.now.register → g.G.Register.damaged c.args.acting.now.register place) (g.G.Register.told c.args.acting.now.register → (k : Contents) × g.G.Register.holds c.args.acting.now.register k) (g.G.Register.faults c.args.acting.now.register) (g.G.Register.faults c.activate.new.self.register) (g.O.Sink.faults c.args.out.now) (g.O.Sink.faults c.tell.new.out) c.in-Ok.heard.end c.in-Ok.ensures.refused c.tell.result c.tell.ensures.cause
+returns-clause-refused g c = told_refused (λ place. g.G.Register.told c.args.acting.now.register → g.G.Register.damaged c.args.acting.now.register place) (g.G.Register.told c.args.acting.now.register → HoldsSome (g.G.Register.holds c.args.acting.now.register) × LacksRoom (g.G.Register.holds c.activate.new.self.register)) (g.G.Register.faults c.args.acting.now.register) (g.G.Register.faults c.activate.new.self.register) (g.O.Sink.faults c.args.out.now) (g.O.Sink.faults c.tell.new.out) c.in-Ok.heard.end c.in-Ok.ensures.refused c.tell.result c.tell.ensures.cause
 
 pub returns-clause-off : goal.returns-clause-off
 returns-clause-off g c = λ off. start_off (g.O.Sink.faults c.args.out.now) (g.O.Sink.faults c.tell.new.out) c.in-Ok.heard.lines.items c.in-Ok.heard.end off c.tell.result c.in-Ok.ensures.told c.tell.ensures.cause

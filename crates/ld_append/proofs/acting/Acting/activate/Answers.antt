@@ -86,7 +86,8 @@ gathered_told Told (Err x) fault e f = tt
 
 pub returns-in-Err-clause-refused : goal.returns-in-Err-clause-refused
 returns-in-Err-clause-refused g c = gathered_told _ c.refused.result c.in-Err.fault c.refused.ensures.end
-    (λ end e. refused_start (g.G.Register.damaged c.args.self.now.register) (g.G.Register.told c.args.self.now.register) (g.G.Register.holds c.args.self.now.register) (g.G.Register.faults c.args.self.now.register) (g.G.Register.faults c.activate.new.reg) c.in-Err.fault end e c.in-Err.ensures.failed c.in-Err.ensures.steady c.in-Err.ensures.damaged c.in-Err.ensures.whole)
+    (λ end e. refused_start (g.G.Register.damaged c.args.self.now.register) (g.G.Register.told c.args.self.now.register) (g.G.Register.holds c.args.self.now.register) (g.G.Register.holds c.activate.new.reg) (g.G.Register.faults c.args.self.now.register) (g.G.Register.faults c.activate.new.reg) (origin_of c.args.config.now.nodes c.args.spec.now) c.args.spec.now c.args.spec.now c.empty-sends.result c.activate.new.out
+    c.in-Err.fault end e c.in-Err.ensures.failed c.in-Err.ensures.steady c.in-Err.ensures.damaged c.in-Err.ensures.whole c.in-Err.ensures.held)
 
 pub returns-in-Err-clause-on : goal.returns-in-Err-clause-on
 returns-in-Err-clause-on g c = λ none. begun_not (Some ends.NoMemory) (g.G.Register.told c.args.self.now.register) (g.G.Register.holds c.args.self.now.register) (g.G.Register.holds c.activate.new.reg) (g.G.Register.faults c.args.self.now.register) (g.G.Register.faults c.activate.new.reg) refl

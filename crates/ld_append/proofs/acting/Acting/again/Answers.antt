@@ -59,7 +59,7 @@ returns-in-Ok-clause-kept g c =
     subst (λ q. HasKept c.args.self.now.end c.go_on.new.self.end (g.G.Register.holds c.args.self.now.register) (g.G.Register.holds q) (g.G.Register.faults c.args.self.now.register) (g.G.Register.faults q)) (sym c.go_on.ensures.register)
     (kept_by (g.G.Register.told c.args.self.now.register) (g.G.Register.holds c.args.self.now.register) (g.G.Register.holds c.retry-answer.new.reg) (g.G.Register.may_hold c.args.self.now.register) (g.G.Register.may_hold c.retry-answer.new.reg) (g.G.Register.damaged c.args.self.now.register) (g.G.Register.faults c.args.self.now.register) (g.G.Register.faults c.retry-answer.new.reg) c.in-Some.sequencer.sequencer.log
     (g.met.G.Register.held_is_told c.args.self.now.register) (g.met.G.Register.held_is_whole c.args.self.now.register) _ _ c.retry-answer.result c.args.self.now.end c.go_on.new.self.end (none_of c.args.self.now.end (sym c.is_some.ensures ∙ c.if-is_some.false)) (c.go_on.ensures.end ∙ ap going c.in-Ok.ensures.end) c.in-Ok.ensures.memory c.retry-answer.ensures.counts
-    c.retry-answer.ensures.failed c.retry-answer.ensures.steady c.retry-answer.ensures.unfailed c.retry-answer.ensures.unseen c.retry-answer.ensures.caused c.retry-answer.ensures.keeps c.retry-answer.ensures.held)
+    c.retry-answer.ensures.failed c.retry-answer.ensures.steady c.retry-answer.ensures.full c.retry-answer.ensures.unfailed c.retry-answer.ensures.unseen c.retry-answer.ensures.caused c.retry-answer.ensures.keeps c.retry-answer.ensures.held)
 
 pub returns-in-Err-clause-kept : goal.returns-in-Err-clause-kept
 returns-in-Err-clause-kept g c = kept_cut c.args.self.now.end (Some ends.NoMemory) (g.G.Register.holds c.args.self.now.register) (g.G.Register.holds c.retry-answer.new.reg) (g.G.Register.faults c.args.self.now.register) (g.G.Register.faults c.retry-answer.new.reg) (none_of c.args.self.now.end (sym c.is_some.ensures ∙ c.if-is_some.false)) refl c.retry-answer.ensures.counts

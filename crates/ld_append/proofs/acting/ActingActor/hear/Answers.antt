@@ -37,7 +37,7 @@ returns-in-Ok-clause-since g c =
       subst (λ q. HasKept c.args.self.now.end c.go_on.new.self.end (g.G.Register.holds c.args.self.now.register) (g.G.Register.holds q) (g.G.Register.faults c.args.self.now.register) (g.G.Register.faults q)) (sym c.go_on.ensures.register)
           (kept_by (g.G.Register.told c.args.self.now.register) (g.G.Register.holds c.args.self.now.register) (g.G.Register.holds c.on_reply-answer.new.reg) (g.G.Register.may_hold c.args.self.now.register) (g.G.Register.may_hold c.on_reply-answer.new.reg) (g.G.Register.damaged c.args.self.now.register) (g.G.Register.faults c.args.self.now.register) (g.G.Register.faults c.on_reply-answer.new.reg) c.in-Some.sequencer.sequencer.log
           (g.met.G.Register.held_is_told c.args.self.now.register) (g.met.G.Register.held_is_whole c.args.self.now.register) _ _ c.on_reply-answer.result c.args.self.now.end c.go_on.new.self.end (none_of c.args.self.now.end (sym c.is_some.ensures ∙ c.if-is_some.false)) (c.go_on.ensures.end ∙ ap going c.in-Ok.ensures.end) c.in-Ok.ensures.memory c.on_reply-answer.ensures.counts
-          c.on_reply-answer.ensures.failed c.on_reply-answer.ensures.steady c.on_reply-answer.ensures.unfailed c.on_reply-answer.ensures.unseen c.on_reply-answer.ensures.caused c.on_reply-answer.ensures.keeps c.on_reply-answer.ensures.held),
+          c.on_reply-answer.ensures.failed c.on_reply-answer.ensures.steady c.on_reply-answer.ensures.full c.on_reply-answer.ensures.unfailed c.on_reply-answer.ensures.unseen c.on_reply-answer.ensures.caused c.on_reply-answer.ensures.keeps c.on_reply-answer.ensures.held),
     )
 
 pub returns-in-Err-clause-since : goal.returns-in-Err-clause-since
