@@ -10,10 +10,10 @@ use Rattle.ld_msg.specs.declared.msg.Msg.{Msg}
 use Rattle.ld_msg.specs.Network.{Network, send, send_all}
 use Rattle.ld_machine.specs.State.{State, finish, or_none, sent_state, actor_of, name_of, message_line, message_lines, kind_of, shown, sequencer_of, reader_of}
 use Rattle.ld_clients.specs.declared.outcome.Outcome.{Outcome}
-use Rattle.ld_clients.specs.declared.client.Client.{Client}
 use Rattle.ld_clients.specs.Serving.{serving_in}
 use Rattle.ld_clients.specs.Followers.{reader_in}
-use Rattle.ld_clients.proofs.Serving.{as_shown, sequencer_of_is}
+use Rattle.ld_clients.proofs.Fading.{names_faded}
+use Rattle.ld_clients.proofs.Serving.{sequencer_named}
 use Rattle.ld_clients.proofs.Followings.{reader_named}
 use Rattle.ld_cluster.specs.declared.cluster.Cluster.{Cluster}
 use Rattle.ld_cluster.specs.Standing.{Parts}
@@ -158,12 +158,9 @@ none_cut k0 k1 l0 l1 l2 l3 o s e h g = messages_cut l0 l1 l3 o s e (adds_all l1 
 
 -- ---- names ----
 
-serving_name : (o : Option (List ℕ × Client)) → name_or_empty (option_map (λ e. e.0) o) ≡ name_of (option_map as_shown o)
-serving_name None = refl
-serving_name (Some e) = refl
-
 pub sequencer_name : (k : Cluster) (s : State) → Parts k s → (l epoch : ℕ) → name_or_empty (option_map (λ e. e.0) (serving_in l epoch k.sequencers)) ≡ name_of (sequencer_of l epoch s.sequencers)
-sequencer_name k s p l epoch = serving_name (serving_in l epoch k.sequencers) ∙ (ap name_of (sym (sequencer_of_is l epoch k.sequencers)) ∙ ap (λ x. name_of (sequencer_of l epoch x)) (sym p.sequencers.sequencers))
+sequencer_name k s p l epoch = name_is (serving_in l epoch k.sequencers)
+    ∙ (sym (sequencer_named l epoch k.sequencers) ∙ (ap (λ x. name_of (sequencer_of l epoch x)) (sym p.sequencers.sequencers) ∙ names_faded l epoch s.sequencers))
 
 pub reader_name : (k : Cluster) (s : State) → Parts k s → (n : ℕ) → name_or_empty (option_map (λ e. e.0) (reader_in n k.readers)) ≡ name_of (reader_of n s.readers)
 reader_name k s p n = name_is (reader_in n k.readers) ∙ (sym (reader_named n k.readers) ∙ ap (λ x. name_of (reader_of n x)) (sym p.readers.readers))

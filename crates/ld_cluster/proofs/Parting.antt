@@ -84,12 +84,12 @@ pub acted_done : (k k' : Cluster) (s : State) (o : Outcome) (told : Register →
     → IsActed s k'.sequencers o told d → (told d.state.register → Foresees k'.register d.state.register) → KnowTheirLogs k'.config k'.sequencers
     → IsDone k k' o d
 acted_done k k' s o told d p e f h n r x a reg logs =
-    let t : State = record s { sequencers = sequencers_of k'.sequencers; register = d.state.register } in
+    let t : State = record s { sequencers = d.state.sequencers; register = d.state.register } in
     let parts : Parts k' t = record {
       nodes = subst (λ c. AreHosts c k'.hosts s.nodes) (sym e) (subst (λ hs. AreHosts k.config hs s.nodes) (sym h) p.nodes);
       register = reg a.register;
       network = p.network ∙ sym n;
-      sequencers = record { sequencers = refl; logs = logs };
+      sequencers = record { sequencers = a.sequencers; logs = logs };
       readers = subst (λ c. AreReaders c t k'.readers) (sym e) (subst (λ ds. AreReaders k.config t ds) (sym r) (record { readers = p.readers.readers; logs = p.readers.logs }));
       specs = p.specs ∙ sym x;
     } in
