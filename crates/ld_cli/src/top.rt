@@ -16,14 +16,13 @@ ghost use Rattle.ld_words.specs.declared.command.TailWords.{TailWords as TailWan
 ghost use Rattle.ld_words.specs.declared.command.Command.{Command as Wish};
 ghost use Rattle.ld_words.specs.declared.command.Command.TheVariants.{Replay, Exercise, Node as Serve, Append, Tail};
 ghost use Rattle.ld_words.specs.Meaning.{Asks, IsNoCommand, HasNoPlaces, AskForNoPlaces};
-ghost use Rattle.ld_msg.specs.Register.{Register as Contents};
 ghost use Rattle.ld_machine.specs.Config.{first_spec};
 ghost use Rattle.ld_machine.specs.State.{State};
 ghost use Rattle.ld_machine.specs.Step.{spec_set};
 ghost use Rattle.ld_dial.specs.Far.{Far};
 ghost use Rattle.ld_rounds.specs.Drives.{IsBroken};
 ghost use Rattle.ld_rounds.specs.Reaching.{Begins};
-ghost use Rattle.ld_append.specs.Acting.{MayCrowd};
+ghost use Rattle.ld_append.specs.Acting.{MayCrowd, HoldsSome, LacksRoom};
 ghost use Rattle.ld_append.specs.Appends.{HasNone as HasNoSequencers, IsAppended, IsEndOfAppend, IsRefused};
 ghost use Rattle.ld_tail.specs.Tails.{HasNone as HasNoReaders, IsTailed, IsTailEnd};
 ghost use Rattle.ld_cli.specs.Payloads.{payloads_in};
@@ -125,9 +124,10 @@ pub fn run<I: Source, O: Sink, D: Disk, G: Register, L: Link, N: Nodes>(
         (IsEndOfAppend (G.told reg.old → MayCrowd (G.may_hold reg.old) w.of.log) (λ place. G.told reg.old → G.damaged reg.old place) (payloads_in w.batches (I.left input.old)) (I.faults input.old) (I.faults input.new) (O.faults out.old) (O.faults out.new) (O.written out.old) (O.written out.new)) result }
 
     // Register comes only where the register's count of faults rose. Where it didn't, and the register tells what it holds,
-    // Damaged comes only where that was no journal from that place on, and JournalFull only where it was a whole one.
+    // Damaged comes only where that was no journal from that place on, and JournalFull only where it was a whole one and what
+    // it holds now leaves no room for an activation or a close.
     ensures append_refused { (w : AppendWanted) → Asks (map string_bytes words.now) (Append w) → EndsDrive (N.faults nodes.old) (N.faults nodes.new)
-        (IsRefused (λ place. G.told reg.old → G.damaged reg.old place) (G.told reg.old → (c : Contents) × G.holds reg.old c) (G.faults reg.old) (G.faults reg.new)) result }
+        (IsRefused (λ place. G.told reg.old → G.damaged reg.old place) (G.told reg.old → HoldsSome (G.holds reg.old) × LacksRoom (G.holds reg.new)) (G.faults reg.old) (G.faults reg.new)) result }
 
     // Each of these statuses comes only where the count of that object rose; at any other the last three stay.
     ensures read { result ≡ Status.Read → Rose (I.faults input.old) (I.faults input.new) }
@@ -195,7 +195,7 @@ fn carry_out<I: Source, O: Sink, D: Disk, G: Register, L: Link, N: Nodes>(
     ensures append_ends { (w : AppendWanted) → command ≡ Append w → EndsDrive (N.faults nodes.old) (N.faults nodes.new)
         (IsEndOfAppend (G.told reg.old → MayCrowd (G.may_hold reg.old) w.of.log) (λ place. G.told reg.old → G.damaged reg.old place) (payloads_in w.batches (I.left input.old)) (I.faults input.old) (I.faults input.new) (O.faults out.old) (O.faults out.new) (O.written out.old) (O.written out.new)) result }
     ensures append_refused { (w : AppendWanted) → command ≡ Append w → EndsDrive (N.faults nodes.old) (N.faults nodes.new)
-        (IsRefused (λ place. G.told reg.old → G.damaged reg.old place) (G.told reg.old → (c : Contents) × G.holds reg.old c) (G.faults reg.old) (G.faults reg.new)) result }
+        (IsRefused (λ place. G.told reg.old → G.damaged reg.old place) (G.told reg.old → HoldsSome (G.holds reg.old) × LacksRoom (G.holds reg.new)) (G.faults reg.old) (G.faults reg.new)) result }
     ensures read { result ≡ Status.Read → Rose (I.faults input.old) (I.faults input.new) }
     ensures write { result ≡ Status.Write → Rose (O.faults out.old) (O.faults out.new) }
     ensures disk { DiskFaults (D.faults disk.old) (D.faults disk.new) result }

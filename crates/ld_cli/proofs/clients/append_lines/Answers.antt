@@ -1,7 +1,6 @@
 use Rattle.std.proofs.Common.{◌≡◌, ◌⊎◌, rules, subst, true}
 use Rattle.std.specs.Io.KnownBytes.{prepend_known}
-use Rattle.ld_msg.specs.Register.{Register as Contents}
-use Rattle.ld_append.specs.Acting.{MayCrowd}
+use Rattle.ld_append.specs.Acting.{MayCrowd, HoldsSome, LacksRoom}
 use Rattle.ld_append.specs.Appends.{IsAppended, IsEndOfAppend, IsRefused}
 use Rattle.ld_cli.specs.Clients.{EndsDrive}
 use Rattle.ld_cli.specs.Payloads.{input_after}
@@ -33,7 +32,7 @@ returns-clause-appended g c = λ s far bounds spec unset told begins.
 
 pub returns-clause-refused : goal.returns-clause-refused
 returns-clause-refused g c =
-    subst (λ r. EndsDrive (g.N.Nodes.faults c.args.nodes.now) (g.N.Nodes.faults c.append-ended.new.nodes) (IsRefused (λ place. g.G.Register.told c.args.reg.now → g.G.Register.damaged c.args.reg.now place) (g.G.Register.told c.args.reg.now → (k : Contents) × g.G.Register.holds c.args.reg.now k) (g.G.Register.faults c.args.reg.now) (g.G.Register.faults r)) c.status_of.result) (search rules)
+    subst (λ r. EndsDrive (g.N.Nodes.faults c.args.nodes.now) (g.N.Nodes.faults c.append-ended.new.nodes) (IsRefused (λ place. g.G.Register.told c.args.reg.now → g.G.Register.damaged c.args.reg.now place) (g.G.Register.told c.args.reg.now → HoldsSome (g.G.Register.holds c.args.reg.now) × LacksRoom (g.G.Register.holds r)) (g.G.Register.faults c.args.reg.now) (g.G.Register.faults r)) c.status_of.result) (search rules)
     (ends_so (g.N.Nodes.faults c.args.nodes.now) (g.N.Nodes.faults c.append-ended.new.nodes) c.failures-before.result c.failures-now.result
-    (IsRefused (λ place. g.G.Register.told c.args.reg.now → g.G.Register.damaged c.args.reg.now place) (g.G.Register.told c.args.reg.now → (k : Contents) × g.G.Register.holds c.args.reg.now k) (g.G.Register.faults c.args.reg.now) (g.G.Register.faults c.append-ended.result.1.now))
+    (IsRefused (λ place. g.G.Register.told c.args.reg.now → g.G.Register.damaged c.args.reg.now place) (g.G.Register.told c.args.reg.now → HoldsSome (g.G.Register.holds c.args.reg.now) × LacksRoom (g.G.Register.holds c.append-ended.result.1.now)) (g.G.Register.faults c.args.reg.now) (g.G.Register.faults c.append-ended.result.1.now))
     c.append-ended.result.0 c.status_of.result c.failures-before.ensures c.failures-now.ensures c.status_of.ensures c.append-ended.ensures.refused)
