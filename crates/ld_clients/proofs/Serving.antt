@@ -54,12 +54,12 @@ pub has_known : (c : Config) (k : Client) → KnowsIn c k → has_log c (log_in 
 has_known c (Live w) n = n.there
 has_known c (Gone l e) n = n
 
-whole_after : (k g : Client) → GoesOn k g → IsWholeIn k → IsWholeIn g
+pub whole_after : (k g : Client) → GoesOn k g → IsWholeIn k → IsWholeIn g
 whole_after (Live w) (Live v) s i = let r : Remains w v = s.remains in record { log = s.log ∙ (i.log ∙ ap (λ (x : Spec). x.log) (sym r.spec)); live = r.gone ∙ i.live }
 whole_after (Gone l e) (Live v) s i = absurd s.remains
 whole_after k (Gone l e) s i = tt
 
-knows_after : (c : Config) (k g : Client) → GoesOn k g → KnowsIn c k → KnowsIn c g
+pub knows_after : (c : Config) (k g : Client) → GoesOn k g → KnowsIn c k → KnowsIn c g
 knows_after c (Live w) (Live v) s n = let r : Remains w v = s.remains in
     record { nodes = ap (λ (x : Origin). x.nodes) r.origin ∙ n.nodes; first = ap (λ (x : Origin). x.first) r.origin ∙ (n.first ∙ ap (first_spec c) (sym s.log)); there = ap (has_log c) s.log ∙ n.there }
 knows_after c (Gone l e) (Live v) s n = absurd s.remains
