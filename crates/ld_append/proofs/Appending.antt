@@ -31,7 +31,10 @@ use Rattle.ld_rounds.specs.Drives.{Driver, AllTaken, Holds, Went, Stops, GoesOn}
 use Rattle.ld_rounds.specs.Reaching.{Begins, Reached}
 use Rattle.ld_append.specs.Acting.{Serves, settled_in}
 use Rattle.ld_append.specs.Appends.{HasNone, sequencing, IsSettled, AreSteps, EndAt, IsAppended, DroveAppend, taken_end, IsStartEnding, IsDriveEnding}
-use Rattle.ld_append.proofs.Serving.{know_none, found_only, live_client}
+use Rattle.ld_clients.specs.declared.client.Client.TheVariants.{Live}
+use Rattle.ld_clients.specs.Names.{each_as}
+use Rattle.ld_clients.specs.Serving.{faded}
+use Rattle.ld_append.proofs.Serving.{know_none, found_only, only_live}
 use Rattle.ld_append.proofs.Ending.{start_partly}
 use Rattle.ld_rounds.proofs.News.{no_news}
 use Rattle.ld_rounds.proofs.Steps.{activate_is, goes_if}
@@ -45,7 +48,7 @@ serves_apart name o T c s nodes network h = record { sequencers = record { seque
 pub begun : (name : List ℕ) (T : Register → Type 0) (c : Config) (s : State) (far : Far) → Begins (HasNone T) c s far → Holds (Serves name None T) c s.network.count s far no_queues
 begun name T c s far h = record {
   sound = h.sound;
-  actor = record { sequencers = record { sequencers = h.such.sequencers; logs = know_none c }; whole = tt; register = h.such.register };
+  actor = record { sequencers = record { sequencers = ap (each_as faded) h.such.sequencers; logs = know_none c }; whole = tt; register = h.such.register };
   nodes = h.nodes;
   count = refl;
   news = subst (λ answers. AreNews s.network.count s.network no_queues answers) (sym h.answers) (no_news s.network h.sent);
@@ -71,8 +74,8 @@ settled_one : (c : Config) (first : ℕ) (own : List ℕ) (o : Option Whole) (T 
 settled_one c first own None T t queues h f n e = absurd cc
 settled_one c first own (Some w) T t queues h f n e = record {
   sequencer = w;
-  there = h.sequencers.sequencers;
-  known = (h.sequencers.logs own (live_client w) (found_only own (live_client w))).first;
+  there = only_live t.sequencers own w.sequencer h.whole.live h.sequencers.sequencers;
+  known = (h.sequencers.logs own (Live w) (found_only own (Live w))).first;
   settled = f;
   queues = queues;
   news = n;

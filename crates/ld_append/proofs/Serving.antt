@@ -15,14 +15,15 @@ use Rattle.ld_msg.specs.declared.msg.Who.TheVariants as whos
 use Rattle.ld_msg.specs.Register.{Register, is_crowded}
 use Rattle.ld_sequencer.specs.declared.origin.Origin.{Origin}
 use Rattle.ld_sequencer.specs.Whole.{Whole}
-use Rattle.ld_machine.specs.Config.{has_log, first_spec}
 use Rattle.ld_machine.specs.State.{State, Done}
 use Rattle.ld_machine.specs.Step.{happens}
 use Rattle.ld_bounds.specs.Sound.{IsSound}
 use Rattle.ld_bounds.proofs.Fewness.{room_there}
 use Rattle.ld_clients.specs.declared.client.Client.{Client}
+use Rattle.ld_clients.specs.declared.client.Client.TheVariants.{Live}
 use Rattle.ld_clients.specs.declared.outcome.Outcome.{Outcome}
-use Rattle.ld_clients.specs.Serving.{IsWhole, Knows, KnowTheirLogs, HasRoom, GoesOn}
+use Rattle.ld_clients.specs.Serving.{faded, Knows, KnowsIn, KnowTheirLogs, HasRoom, GoesOn}
+use Rattle.ld_clients.specs.Names.{each_as}
 use Rattle.ld_clients.specs.Acting as acting
 use Rattle.ld_clients.specs.Acting.{Stays}
 use Rattle.ld_clients.proofs.Names.{all_put, all_none}
@@ -35,7 +36,7 @@ use Rattle.ld_append.proofs.Clients.{append_client, retry_client, activate_clien
 use Rattle.ld_lsn.specs.Number.{numbered}
 use Rattle.ld_transcript.specs.declared.line.Line.TheVariants as lines
 use Rattle.ld_msg.specs.Sequencer as sequencer
-use Rattle.ld_msg.specs.Sequencer.{Appending, appending, appended, first_stores, next_esn}
+use Rattle.ld_msg.specs.Sequencer.{Sequencer, Appending, appending, appended, first_stores, next_esn}
 use Rattle.ld_machine.specs.Step.{on_live, append_done as append_row}
 use Rattle.ld_register.specs.Calls.{ended, after_activate, activated as granted}
 use Rattle.ld_register.specs.declared.register.Grant.{Grant}
@@ -48,8 +49,10 @@ use Rattle.ld_sequencer.specs.Whole.{as_now, sent_as}
 use Rattle.ld_clients.specs.Refusing.{fault_lines, told_lines}
 use Rattle.ld_clients.specs.Acting.{IsNamed, HasActed}
 use Rattle.ld_clients.specs.Serving.{shown}
-use Rattle.ld_clients.proofs.Acting.{append_done, append_refused, retry_done, reply_done, retried_goes, replied_goes, appended_goes, same_goes}
-use Rattle.ld_clients.proofs.Placing.{placed, named, append_nobody, append_somebody, retry_nobody, retry_somebody, reply_somebody}
+use Rattle.ld_clients.proofs.Acting.{append_done, append_refused, retry_done, reply_done, retried_goes, replied_goes, appended_goes, unchanged_goes}
+use Rattle.ld_clients.proofs.Fading.{found_live}
+use Rattle.ld_clients.proofs.Serving.{knows_after, whole_after}
+use Rattle.ld_clients.proofs.Placing.{placed, named, none_as, append_nobody, append_somebody, retry_nobody, retry_somebody, reply_somebody}
 use Rattle.ld_clients.proofs.Activating.{granted_done, refused_done, know_active, active_whole}
 use Rattle.ld_msg.specs.Register.{Answer, View, Granted, AtLimit, Behind, Overtaken, Fails}
 use Rattle.ld_clients.specs.Serving.{serving_in}
@@ -95,30 +98,24 @@ module _ {X : Type 0} where
   pub found_only : (name : List ℕ) (k : X) → find_named name ((name, k) ∷ []) ≡ Some k
   found_only name k = ap (find_named name) (sym (put_first name k)) ∙ (find_named-put_named name name k [] ∙ ap (λ b. cond b (Some k) (find_named name [])) (same-self name))
 
-abbrev pub live_client : Whole → Client
-live_client w = record { sequencer = w; dropped = false }
+-- where the state has one sequencer alone, and it isn't gone
+pub only_live : (qs : List (List ℕ × Sequencer)) (name : List ℕ) (q : Sequencer) → q.gone ≡ false → each_as faded qs ≡ (name, q) ∷ [] → qs ≡ (name, q) ∷ []
+only_live [] name q g e = absurd cc
+only_live (x ∷ []) name q g e =
+    let h : (x.0, faded x.1) ≡ (name, q) = cc in
+    let s : x.1 ≡ q = same_some x.1 q (found_live (Some x.1) q g (ap (λ (y : List ℕ × Sequencer). Some y.1) h)) in
+    λ i. ((h i).0, s i) ∷ []
+only_live (x ∷ y ∷ qs) name q g e = absurd cc
 
 none_other : (other name : List ℕ) (now : Option Whole) → same other name ≡ false → find_named other (clients name now) ≡ None
 none_other other name None n = find_named-empty other
-none_other other name (Some w) n = ap (find_named other) (sym (put_first name (live_client w))) ∙ (find_named-put_named other name (live_client w) [] ∙ (ap (λ b. cond b (Some (live_client w)) (find_named other [])) n ∙ find_named-empty other))
+none_other other name (Some w) n = ap (find_named other) (sym (put_first name (Live w))) ∙ (find_named-put_named other name (Live w) [] ∙ (ap (λ b. cond b (Some (Live w)) (find_named other [])) n ∙ find_named-empty other))
 
 pub know_only : (c : Config) (name : List ℕ) (w : Whole) → Knows c w → KnowTheirLogs c (clients name (Some w))
-know_only c name w k = subst (KnowTheirLogs c) (put_first name (live_client w)) (all_put (λ (x : Client). Knows c x.sequencer) name (live_client w) [] k (all_none (λ (x : Client). Knows c x.sequencer)))
+know_only c name w k = subst (KnowTheirLogs c) (put_first name (Live w)) (all_put (KnowsIn c) name (Live w) [] k (all_none (KnowsIn c)))
 
 pub know_none : (c : Config) → KnowTheirLogs c []
-know_none c = all_none (λ (x : Client). Knows c x.sequencer)
-
--- ---- the same one after a call ----
-
-pub goes_knows : (c : Config) (k g : Whole) → GoesOn (live_client k) (live_client g) → Knows c k → Knows c g
-goes_knows c k g e h = record {
-  nodes = ap (λ (x : Origin). x.nodes) e.origin ∙ h.nodes;
-  first = ap (λ (x : Origin). x.first) e.origin ∙ (h.first ∙ ap (first_spec c) (sym e.log));
-  there = ap (has_log c) e.log ∙ h.there;
-}
-
-pub goes_whole : (k g : Whole) → GoesOn (live_client k) (live_client g) → IsWhole k → IsWhole g
-goes_whole k g e w = record { log = e.log ∙ (w.log ∙ ap (λ (x : Spec). x.log) (sym e.spec)); live = e.gone ∙ w.live }
+know_none c = all_none (KnowsIn c)
 
 -- the register of a sound state has room
 pub has_room : (c : Config) (s : State) → IsInBounds c → IsSound c s → HasRoom c s.register
@@ -127,12 +124,12 @@ has_room c s b h l k = room_there c b s.register l h.register k
 -- ---- a step ----
 
 pub stays_told : (s : State) (gs : List (List ℕ × Client)) (o : Outcome) (T : Register → Type 0) (d : Done) → T s.register → acting.IsActed s gs o (Stays s) d → acting.IsActed s gs o T d
-stays_told s gs o T d t h = record { state = h.state; register = subst T (sym h.register) t; lines = h.lines; sends = h.sends }
+stays_told s gs o T d t h = record { state = h.state; sequencers = h.sequencers; register = subst T (sym h.register) t; lines = h.lines; sends = h.sends }
 
 pub serves_on : (c : Config) (s : State) (name : List ℕ) (now : Option Whole) (o : Outcome) (T : Register → Type 0) (d : Done) → acting.IsActed s (clients name now) o T d → IsClient s d → KnowTheirLogs c (clients name now) → MayBeWhole now
     → IsActed (Serves name now T c) s o.lines.items o.sends d
 serves_on c s name now o T d r k logs w = record {
-  actor = record { sequencers = record { sequencers = ap (λ t. t.sequencers) r.state; logs = logs }; whole = w; register = r.register };
+  actor = record { sequencers = record { sequencers = r.sequencers; logs = logs }; whole = w; register = r.register };
   nodes = k.nodes;
   network = k.network;
   lines = r.lines;
@@ -159,12 +156,12 @@ append_lines name n sequencer.Numbered fault f = subst (λ x. lines_by name (Err
 -- ---- what it takes ----
 
 pub takes_none : (c : Config) (s : State) (name : List ℕ) (T : Register → Type 0) (m : Msg) → Serves name None T c s → false ≡ takes name s m
-takes_none c s name T m h = sym (ap (λ o. takes_it o m) (ap (find_named name) h.sequencers.sequencers ∙ find_named-empty name))
+takes_none c s name T m h = sym (ap (λ o. takes_it o m) (none_as c s [] h.sequencers name (find_named-empty name)))
 
 pub takes_one : (c : Config) (s : State) (name : List ℕ) (T : Register → Type 0) (w : Whole) (m : Msg) (b : Bool) → Serves name (Some w) T c s → b ≡ (is_to w.sequencer.epoch m.to && (m.log == w.sequencer.spec.log)) → b ≡ takes name s m
 takes_one c s name T w m b h e =
-    let k : Client = live_client w in
-    let found = (named c s (clients name (Some w)) h.sequencers name k (found_only name k)).found in
+    let k : Client = Live w in
+    let found = found_live (find_named name s.sequencers) w.sequencer h.whole.live (named c s (clients name (Some w)) h.sequencers name k (found_only name k)).found in
     e ∙ (ap (λ n. is_to w.sequencer.epoch m.to && (m.log == n)) (sym h.whole.log) ∙ sym (ap (λ o. takes_it o m) found))
 
 module _ (c : Config) (s : State) (name : List ℕ) (T : Register → Type 0) where
@@ -187,27 +184,27 @@ module _ (c : Config) (s : State) (name : List ℕ) (T : Register → Type 0) wh
     abbrev one : List (List ℕ × Client)
     one = clients name (Some w)
 
-    is_named : IsNamed c s name (live_client w)
-    is_named = named c s one h.sequencers name (live_client w) (found_only name (live_client w))
+    is_named : IsNamed c s name (Live w)
+    is_named = named c s one h.sequencers name (Live w) (found_only name (Live w))
 
     knows_it : Knows c w
-    knows_it = h.sequencers.logs name (live_client w) (found_only name (live_client w))
+    knows_it = h.sequencers.logs name (Live w) (found_only name (Live w))
 
-    appended_as : (g : Whole) (p : List ℕ) (o : Outcome) → GoesOn (live_client w) (live_client g)
-        → HasActed s name (live_client g) o (Stays s) (on_live s (Some (shown (live_client w))) (λ q. append_row s name q p (appending q p))) → IsActed (Serves name (Some g) T c) s o.lines.items o.sends (happens c s (events.Append name p))
+    appended_as : (g : Whole) (p : List ℕ) (o : Outcome) → GoesOn (Live w) (Live g)
+        → HasActed s name (Live g) o (Stays s) (on_live s (Some (shown (Live w))) (λ q. append_row s name q p (appending q p))) → IsActed (Serves name (Some g) T c) s o.lines.items o.sends (happens c s (events.Append name p))
     appended_as g p o e d = serves_on c s name (Some g) o T _
-        (stays_told s (clients name (Some g)) o T _ h.register (append_somebody c s one h.sequencers name o p (live_client w) (live_client g) (clients name (Some g)) (found_only name (live_client w)) (sym (put_only name (live_client w) (live_client g))) d))
-        (append_client c s name p) (know_only c name g (goes_knows c w g e knows_it)) (goes_whole w g e h.whole)
+        (stays_told s (clients name (Some g)) o T _ h.register (append_somebody c s one h.sequencers name o p (Live w) (Live g) (clients name (Some g)) (found_only name (Live w)) (sym (put_only name (Live w) (Live g))) d))
+        (append_client c s name p) (know_only c name g (knows_after c (Live w) (Live g) e knows_it)) (whole_after (Live w) (Live g) e h.whole)
 
     pub is_appended : (g : Whole) (p own : List ℕ) (number : ℕ) (o : Outcome) → g ≡ as_now w (appended w.sequencer p) → appending w.sequencer p ≡ sequencer.Numbered → own ≡ name → number ≡ numbered w.sequencer.epoch (next_esn w.sequencer)
         → o.lines.items ≡ lines.Appended own number ∷ [] → o.sends ≡ sent_as w (first_stores w.sequencer p) → IsActed (Serves name (Some g) T c) s o.lines.items o.sends (happens c s (events.Append name p))
-    is_appended g p own number o v n u m ls ms = appended_as g p o (appended_goes (live_client w) (live_client g) p refl v)
-        (append_done c s name (live_client w) is_named h.whole refl (live_client g) p own number o refl v n u m ls ms)
+    is_appended g p own number o v n u m ls ms = appended_as g p o (appended_goes (Live w) w refl g p v)
+        (append_done c s name (Live w) is_named h.whole w refl g p own number o v n u m ls ms)
 
     pub not_appended : (g : Whole) (p : List ℕ) (fault : SequencerFault) (o : Outcome) → g ≡ w → fault ≡ append_fault (length p) (appending w.sequencer p) → (fault ≢ faults.NoMemory)
         → o.lines.items ≡ fault_lines name fault → o.sends ≡ [] → IsActed (Serves name (Some g) T c) s o.lines.items o.sends (happens c s (events.Append name p))
-    not_appended g p fault o e f n ls ms = appended_as g p o (same_goes (live_client w) (live_client g) (ap live_client e))
-        (append_refused c s name (live_client w) is_named h.whole refl (live_client g) p fault o (ap live_client e) f n ls ms)
+    not_appended g p fault o e f n ls ms = appended_as g p o (unchanged_goes (Live w) w refl g e)
+        (append_refused c s name (Live w) is_named h.whole w refl g p fault o e f n ls ms)
 
     -- ---- a retry or an answer ----
 
@@ -217,7 +214,7 @@ module _ (c : Config) (s : State) (name : List ℕ) (T : Register → Type 0) wh
     not_limit X (Err fault) (inl f) room e = let g : fault ≡ faults.Register registers.LogLimit = cc in let z : faults.NoMemory ≡ faults.Register registers.LogLimit = sym f ∙ g in absurd cc
     not_limit X (Err fault) (inr y) room e = let f = sym room ∙ y.1 in absurd cc
 
-    serving_only : (l : ℕ) → l ≡ w.sequencer.log → serving_in l w.sequencer.epoch one ≡ Some (name, live_client w)
+    serving_only : (l : ℕ) → l ≡ w.sequencer.log → serving_in l w.sequencer.epoch one ≡ Some (name, Live w)
     serving_only l e = rw (e, same_number w.sequencer.log, same_number w.sequencer.epoch) refl
 
     module _ (g : Whole) (r : Result Report SequencerFault) (old new : List Msg) (o : Outcome) (U : Register → Type 0) (b : IsInBounds c) (sound : IsSound c s) (m : r ≢ Err faults.NoMemory)
@@ -234,11 +231,11 @@ module _ (c : Config) (s : State) (name : List ℕ) (T : Register → Type 0) wh
           → IfErr r (λ fault. Unlooked w g fault old new (raised_whole w).sequencer (pending_stores (raised_whole w)) (λ looks. retry_acts looks w) ⊎ ((looks : ℕ → View) → IsRefused w g fault old new (retry_acts looks w)))
           → IsActed (Serves name (Some g) U c) s o.lines.items o.sends (happens c s (events.Retry name))
       retried y a f =
-          let e : GoesOn (live_client w) (live_client g) = retried_goes (live_client w) (live_client g) r old new refl a f m in
+          let e : GoesOn (Live w) (Live g) = retried_goes (Live w) w refl g r old new a f m in
           serves_on c s name (Some g) o U _
-          (retry_somebody c s one h.sequencers name o U (live_client w) (live_client g) (clients name (Some g)) (found_only name (live_client w)) (sym (put_only name (live_client w) (live_client g)))
-          (retry_done c s name (live_client w) is_named h.whole refl r (live_client g) old new o U refl y x m room_is empty lines_are ms))
-          (retry_client c s name) (know_only c name g (goes_knows c w g e knows_it)) (goes_whole w g e h.whole)
+          (retry_somebody c s one h.sequencers name o U (Live w) (Live g) (clients name (Some g)) (found_only name (Live w)) (sym (put_only name (Live w) (Live g)))
+          (retry_done c s name (Live w) is_named h.whole w refl r g e old new o U y x m room_is empty lines_are ms))
+          (retry_client c s name) (know_only c name g (knows_after c (Live w) (Live g) e knows_it)) (whole_after (Live w) (Live g) e h.whole)
 
       pub answered : (a : Msg) → (a.to ≡ whos.Sequencer w.sequencer.epoch) → (a.log ≡ w.sequencer.spec.log)
           → IfOk r (λ report. Acted w g report old new (called_by w s.register (reply_acts (looks_of w s.register) w a.from a.body)).acts × U (called_by w s.register (reply_acts (looks_of w s.register) w a.from a.body)).register)
@@ -246,16 +243,16 @@ module _ (c : Config) (s : State) (name : List ℕ) (T : Register → Type 0) wh
           → IfErr r (λ fault. Unseen w g fault old new a.body ⊎ (Unlooked w g fault old new w.sequencer [] (λ looks. reply_acts looks w a.from a.body) ⊎ ((looks : ℕ → View) → IsRefused w g fault old new (reply_acts looks w a.from a.body))))
           → IsActed (Serves name (Some g) U c) s o.lines.items o.sends (comes_to c s a a.to)
       answered a to log y t f =
-          let e : GoesOn (live_client w) (live_client g) = replied_goes (live_client w) (live_client g) r old new a.from a.body refl t f m in
+          let e : GoesOn (Live w) (Live g) = replied_goes (Live w) w refl g r old new a.from a.body t f m in
           let n : ℕ = w.sequencer.epoch in
-          let k : Client = live_client w in
+          let k : Client = Live w in
           let found : serving_in a.log n one ≡ Some (name, k) = serving_only a.log (log ∙ sym h.whole.log) in
           let done = reply_somebody c s one h.sequencers a n name name (clients name (Some g)) o U (sym (ap (option_map (λ (z : List ℕ × Client). z.0)) found)) refl
           (λ z p. subst (λ (v : List ℕ × Client). find_named v.0 one ≡ Some v.1) (same_some (name, k) z (sym found ∙ p)) (found_only name k))
           (λ z p. subst (λ (v : Client). acting.IsActed s (clients name (Some g)) o U (to_live c s name (shown v) a)) (same_some k z (sym (found_only name k) ∙ p))
-          (placed c s one h.sequencers name (live_client g) (clients name (Some g)) o U _ (sym (put_only name k (live_client g))) (reply_done c s name k is_named h.whole refl a r (live_client g) old new o U refl y x m room_is empty lines_are ms))) in
+          (placed c s one h.sequencers name (Live g) (clients name (Some g)) o U _ (sym (put_only name k (Live g))) (reply_done c s name k is_named h.whole w refl a r g e old new o U y x m room_is empty lines_are ms))) in
           subst (λ z. IsActed (Serves name (Some g) U c) s o.lines.items o.sends (comes_to c s a z)) (sym to)
-          (serves_on c s name (Some g) o U _ done (reply_client c s a _) (know_only c name g (goes_knows c w g e knows_it)) (goes_whole w g e h.whole))
+          (serves_on c s name (Some g) o U _ done (reply_client c s a _) (know_only c name g (knows_after c (Live w) (Live g) e knows_it)) (whole_after (Live w) (Live g) e h.whole))
 
 -- ---- an activation ----
 
@@ -289,9 +286,9 @@ module _ (c : Config) (s : State) (name : List ℕ) (T : Register → Type 0) (h
   pub is_activated : (w : Whole) (own : List ℕ) (g : Grant) (looks : ℕ → View) → IsActive (origin_of c.nodes spec) spec looks g w old new → (IsErrOf {E = SequencerFault} (Ok w) faults.NoMemory × before) ⊎ (Activates (origin_of c.nodes spec) spec (looks_after spec spec s.register) old new (Ok w) (granted s.register spec) × U (after_activate s.register spec))
       → own ≡ name → o.lines.items ≡ lines.Active own w.sequencer.epoch ∷ [] → IsActed (Serves name (Some w) U c) s o.lines.items o.sends (happens c s (events.Activate name spec.log))
   is_activated w own g looks active x n ls = serves_on c s name (Some w) o U _
-      (granted_done c s [] h.sequencers name o U spec spec is.is is.there (sym unset) free (has_room c s b sound) w old new own (clients name (Some w)) before x empty n (sym (put_first name (live_client w)) ∙ ap (λ m. put_named m (live_client w) []) (sym n)) ls ms)
+      (granted_done c s [] h.sequencers name o U spec spec is.is is.there (sym unset) free (has_room c s b sound) w old new own (clients name (Some w)) before x empty n (sym (put_first name (Live w)) ∙ ap (λ m. put_named m (Live w) []) (sym n)) ls ms)
       (activate_client c s name spec.log)
-      (subst (KnowTheirLogs c) (put_first name (live_client w)) (know_active c [] name spec.log spec spec looks g w old new is.is is.there refl active (know_none c)))
+      (subst (KnowTheirLogs c) (put_first name (Live w)) (know_active c [] name spec.log spec spec looks g w old new is.is is.there refl active (know_none c)))
       (active_whole (origin_of c.nodes spec) spec looks g w old new active)
 
   pub not_activated : (fault : SequencerFault) → (fault ≢ faults.NoMemory) → (IsErrOf {T = Whole} (Err fault) faults.NoMemory × before) ⊎ (Activates (origin_of c.nodes spec) spec (looks_after spec spec s.register) old new (Err fault) (granted s.register spec) × U (after_activate s.register spec))

@@ -16,6 +16,7 @@ use Rattle.ld_machine.specs.Config.{first_spec, has_log}
 use Rattle.ld_machine.specs.State.{State}
 use Rattle.ld_machine.specs.Step.{spec_set}
 use Rattle.ld_clients.specs.declared.client.Client.{Client}
+use Rattle.ld_clients.specs.declared.client.Client.TheVariants.{Live}
 use Rattle.ld_clients.specs.Serving.{IsWhole}
 use Rattle.ld_clients.specs.Acting.{AreSequencers}
 use Rattle.ld_rounds.specs.declared.ended.Refusal.{Refusal}
@@ -26,7 +27,7 @@ use Rattle.ld_rounds.specs.Refusals.{HeldNone, IsRefusal, refusal_as}
 -- the one sequencer, under its name, once it is active
 abbrev pub clients : List ℕ → Option Whole → List (List ℕ × Client)
 clients name None = []
-clients name (Some w) = (name, record { sequencer = w; dropped = false }) ∷ []
+clients name (Some w) = (name, Live w) ∷ []
 
 abbrev pub MayBeWhole : Option Whole → Type 0
 MayBeWhole None = Unit {0}

@@ -1,5 +1,6 @@
 use Rattle.std.proofs.Common.{◌∙◌, refl, sym, ap, subst, Some, None}
 use Rattle.ld_sequencer.specs.Looks.{shows}
+use Rattle.ld_clients.specs.declared.client.Client.TheVariants.{Live}
 use Rattle.ld_clients.proofs.Acting.{retried_goes}
 use Rattle.ld_sequencer.specs.Whole.{retry_acts}
 use Rattle.ld_rounds.specs.declared.ended.Ended.TheVariants as ends
@@ -7,7 +8,7 @@ use Rattle.ld_append.specs.Acting.{Serves, IsSince, HasKept, is_here, kept_here}
 use Rattle.ld_append.specs.Refusing.{going}
 use Rattle.ld_append.proofs.Crowding.{tries_leave, called_since, gone_since, since_as}
 use Rattle.ld_append.proofs.Keeping.{none_of, kept_by, kept_cut}
-use Rattle.ld_append.proofs.Serving.{live_client, none_retried, retried, serves_as}
+use Rattle.ld_append.proofs.Serving.{none_retried, retried, serves_as}
 use Rattle.ld_append.proofs.acting.Acting.again.Goals as goal
 
 pub returns-in-Ok-clause-retried : goal.returns-in-Ok-clause-retried
@@ -31,7 +32,7 @@ returns-in-Ok-clause-since g c =
     let v = c.retry-answer.new.self in
     let told = g.G.Register.told c.args.self.now.register in
     let may = g.G.Register.may_hold c.args.self.now.register in
-    let goes = retried_goes (live_client w) (live_client v) c.retry-answer.result c.empty-sends.result c.retry-answer.new.out refl c.retry-answer.ensures.acted c.retry-answer.ensures.refused c.in-Ok.ensures.memory in
+    let goes = retried_goes (Live w) w refl v c.retry-answer.result c.empty-sends.result c.retry-answer.new.out c.retry-answer.ensures.acted c.retry-answer.ensures.refused c.in-Ok.ensures.memory in
     let leaves = tries_leave w.sequencer.log (retry_acts (shows w.sequencer.spec) w).tries told (g.G.Register.told c.retry-answer.new.reg) may (g.G.Register.may_hold c.retry-answer.new.reg) c.retry-answer.ensures.told (c.retry-answer.ensures.done_or_not (shows w.sequencer.spec)) in
     let since = called_since told (g.G.Register.told c.retry-answer.new.reg) (g.G.Register.holds c.args.self.now.register) may (g.G.Register.may_hold c.retry-answer.new.reg) (g.G.Register.damaged c.args.self.now.register) (g.met.G.Register.held_may_be c.args.self.now.register) w v goes.log leaves
     c.retry-answer.result c.in-Ok.heard.end c.args.self.now.is_shut c.go_on.new.self.is_shut c.retry-answer.ensures.caused c.in-Ok.ensures.end c.go_on.ensures.shut in

@@ -1,5 +1,6 @@
 use Rattle.std.proofs.Common.{◌∙◌, refl, sym, ap, subst, None, Some}
 use Rattle.ld_sequencer.specs.Looks.{shows}
+use Rattle.ld_clients.specs.declared.client.Client.TheVariants.{Live}
 use Rattle.ld_clients.proofs.Acting.{replied_goes}
 use Rattle.ld_sequencer.specs.Whole.{reply_acts}
 use Rattle.ld_rounds.specs.declared.ended.Ended.TheVariants as ends
@@ -7,7 +8,7 @@ use Rattle.ld_append.specs.Acting.{Serves, IsTo, IsSince, HasKept, is_here, kept
 use Rattle.ld_append.specs.Refusing.{going}
 use Rattle.ld_append.proofs.Crowding.{tries_leave, called_since, gone_since, since_as}
 use Rattle.ld_append.proofs.Keeping.{none_of, kept_by, kept_cut}
-use Rattle.ld_append.proofs.Serving.{live_client, answered, serves_as}
+use Rattle.ld_append.proofs.Serving.{answered, serves_as}
 use Rattle.ld_append.proofs.acting.ActingActor.hear.Goals as goal
 
 pub returns-in-Ok-clause-acted : goal.returns-in-Ok-clause-acted
@@ -26,7 +27,7 @@ returns-in-Ok-clause-since g c =
     let v = c.on_reply-answer.new.self in
     let told = g.G.Register.told c.args.self.now.register in
     let may = g.G.Register.may_hold c.args.self.now.register in
-    let goes = replied_goes (live_client w) (live_client v) c.on_reply-answer.result c.empty-sends.result c.on_reply-answer.new.out c.args.message.now.from c.args.message.now.body refl c.on_reply-answer.ensures.acted c.on_reply-answer.ensures.refused c.in-Ok.ensures.memory in
+    let goes = replied_goes (Live w) w refl v c.on_reply-answer.result c.empty-sends.result c.on_reply-answer.new.out c.args.message.now.from c.args.message.now.body c.on_reply-answer.ensures.acted c.on_reply-answer.ensures.refused c.in-Ok.ensures.memory in
     let leaves = tries_leave w.sequencer.log (reply_acts (shows w.sequencer.spec) w c.args.message.now.from c.args.message.now.body).tries told (g.G.Register.told c.on_reply-answer.new.reg) may (g.G.Register.may_hold c.on_reply-answer.new.reg) c.on_reply-answer.ensures.told (c.on_reply-answer.ensures.done_or_not (shows w.sequencer.spec)) in
     let since = called_since told (g.G.Register.told c.on_reply-answer.new.reg) (g.G.Register.holds c.args.self.now.register) may (g.G.Register.may_hold c.on_reply-answer.new.reg) (g.G.Register.damaged c.args.self.now.register) (g.met.G.Register.held_may_be c.args.self.now.register) w v goes.log leaves
     c.on_reply-answer.result c.in-Ok.heard.end c.args.self.now.is_shut c.go_on.new.self.is_shut c.on_reply-answer.ensures.caused c.in-Ok.ensures.end c.go_on.ensures.shut in (
