@@ -1,7 +1,6 @@
-use Rattle.std.proofs.Common.{inr, sym, subst, codes, map, string_bytes}
+use Rattle.std.proofs.Common.{inr, codes, map, string_bytes}
 use Rattle.ld_words.specs.declared.command.Command.TheVariants.{Replay, Exercise, Node, Append, Tail}
 use Rattle.ld_rounds.specs.Drives.{IsBroken}
-use Rattle.ld_cli.specs.Clients.{Drives}
 use Rattle.ld_cli.specs.Payloads.{payloads_in}
 use Rattle.ld_cli.proofs.Asked.{asked_one, asked_none}
 use Rattle.ld_cli.proofs.Drives.{nothing_done, nothing_read}
