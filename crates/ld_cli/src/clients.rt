@@ -8,6 +8,7 @@ ghost use Rattle.ld_machine.specs.Step.{spec_set};
 ghost use Rattle.ld_dial.specs.Far.{Far};
 ghost use Rattle.ld_words.specs.Bounds.{IsTailInBounds, IsLogInBounds};
 ghost use Rattle.ld_rounds.specs.Drives.{IsBroken};
+ghost use Rattle.ld_rounds.specs.Endings.{IsOffAs};
 ghost use Rattle.ld_append.specs.Acting.{HoldsSome, LacksRoom, IsSpecOf, IsUnset, MayCrowd};
 ghost use Rattle.std.specs.Io.KnownBytes.{prepend_known};
 ghost use Rattle.ld_rounds.specs.Reaching.{Begins};
@@ -92,6 +93,7 @@ fn append_lines<I: Source, O: Sink, G: Register, N: Nodes>(
         (IsEndOfAppend (G.told reg.old → MayCrowd (G.may_hold reg.old) spec.now.log) (λ place. G.told reg.old → G.damaged reg.old place) (input_after lines.old.held.now.batches lines.old.held.now.number (prepend_known lines.old.held.now.buffer (I.left lines.old.input.now))) (I.faults lines.old.input.now) (I.faults lines.new.input.now) (O.faults out.old) (O.faults out.new) (O.written out.old) (O.written out.new)) result }
     ensures refused { EndsDrive (N.faults nodes.old) (N.faults nodes.new)
         (IsRefused (λ place. G.told reg.old → G.damaged reg.old place) (G.told reg.old → HoldsSome (G.holds reg.old) × LacksRoom (G.holds reg.new)) (G.faults reg.old) (G.faults reg.new)) result }
+    ensures off { EndsDrive (N.faults nodes.old) (N.faults nodes.new) (IsOffAs (N.off nodes.new)) result }
 {
     let before = nodes.failures();
     let (ended, _) = append(
@@ -126,6 +128,7 @@ pub(crate) fn appended<I: Source, O: Sink, G: Register, N: Nodes>(
         (IsEndOfAppend (G.told reg.old → MayCrowd (G.may_hold reg.old) words.now.of.log) (λ place. G.told reg.old → G.damaged reg.old place) (payloads_in words.now.batches (I.left input.old)) (I.faults input.old) (I.faults input.new) (O.faults out.old) (O.faults out.new) (O.written out.old) (O.written out.new)) result }
     ensures refused { EndsDrive (N.faults nodes.old) (N.faults nodes.new)
         (IsRefused (λ place. G.told reg.old → G.damaged reg.old place) (G.told reg.old → HoldsSome (G.holds reg.old) × LacksRoom (G.holds reg.new)) (G.faults reg.old) (G.faults reg.new)) result }
+    ensures off { EndsDrive (N.faults nodes.old) (N.faults nodes.new) (IsOffAs (N.off nodes.new)) result }
 {
     let Ok(name) = name_of(alloc, b's') else {
         return Status::NoMemory;
@@ -158,6 +161,7 @@ pub(crate) fn tailed<O: Sink, G: Register, N: Nodes>(
     ensures ends { EndsDrive (N.faults nodes.old) (N.faults nodes.new)
         (IsTailEnd (λ place. G.told reg.old → G.damaged reg.old place) (G.faults reg.old) (G.faults reg.new) (O.faults out.old) (O.faults out.new)) result }
     ensures only_looks { OnlyLooks (G.told reg.old) (G.told reg.new) (G.may_hold reg.old) (G.may_hold reg.new) }
+    ensures off { EndsDrive (N.faults nodes.old) (N.faults nodes.new) (IsOffAs (N.off nodes.new)) result }
 {
     let Ok(name) = name_of(alloc, b'r') else {
         return Status::NoMemory;

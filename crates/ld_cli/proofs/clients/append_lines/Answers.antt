@@ -5,6 +5,7 @@ use Rattle.ld_append.specs.Appends.{IsAppended, IsEndOfAppend, IsRefused}
 use Rattle.ld_cli.specs.Clients.{EndsDrive}
 use Rattle.ld_cli.specs.Payloads.{input_after}
 use Rattle.ld_rounds.specs.Drives.{IsBroken}
+use Rattle.ld_rounds.specs.Endings.{IsOffAs}
 use Rattle.ld_cli.proofs.Drives.{ends_so, driven_so}
 use Rattle.ld_cli.proofs.clients.append_lines.Goals as goal
 
@@ -36,3 +37,7 @@ returns-clause-refused g c =
     (ends_so (g.N.Nodes.faults c.args.nodes.now) (g.N.Nodes.faults c.append-ended.new.nodes) c.failures-before.result c.failures-now.result
     (IsRefused (λ place. g.G.Register.told c.args.reg.now → g.G.Register.damaged c.args.reg.now place) (g.G.Register.told c.args.reg.now → HoldsSome (g.G.Register.holds c.args.reg.now) × LacksRoom (g.G.Register.holds c.append-ended.result.1.now)) (g.G.Register.faults c.args.reg.now) (g.G.Register.faults c.append-ended.result.1.now))
     c.append-ended.result.0 c.status_of.result c.failures-before.ensures c.failures-now.ensures c.status_of.ensures c.append-ended.ensures.refused)
+
+pub returns-clause-off : goal.returns-clause-off
+returns-clause-off g c = ends_so (g.N.Nodes.faults c.args.nodes.now) (g.N.Nodes.faults c.append-ended.new.nodes) c.failures-before.result c.failures-now.result (IsOffAs (g.N.Nodes.off c.append-ended.new.nodes))
+    c.append-ended.result.0 c.status_of.result c.failures-before.ensures c.failures-now.ensures c.status_of.ensures c.append-ended.ensures.off

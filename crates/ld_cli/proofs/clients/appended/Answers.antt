@@ -19,6 +19,7 @@ returns-in_default g c = record {
   appended = λ s far told begins unset. inr (nothing_done (codes "s") c.args.words.now.of.log (IsBroken (g.N.Nodes.faults c.args.nodes.now) (g.N.Nodes.faults c.args.nodes.now) (g.N.Nodes.endings c.args.nodes.now) (g.N.Nodes.endings c.args.nodes.now)) (payloads_in c.args.words.now.batches (g.I.Source.left c.args.input.now)) c.args.words.now.of.rounds c.args.words.now.of.config s (g.O.Sink.written c.args.out.now));
   ends = inl tt;
   refused = tt;
+  off = tt;
 }
 
 pub returns-in_default-new : goal.returns-in_default-new
@@ -26,6 +27,7 @@ returns-in_default-new g c = record {
   appended = λ s far told begins unset. inr (nothing_done (codes "s") c.args.words.now.of.log (IsBroken (g.N.Nodes.faults c.args.nodes.now) (g.N.Nodes.faults c.args.nodes.now) (g.N.Nodes.endings c.args.nodes.now) (g.N.Nodes.endings c.args.nodes.now)) (payloads_in c.args.words.now.batches (g.I.Source.left c.args.input.now)) c.args.words.now.of.rounds c.args.words.now.of.config s (g.O.Sink.written c.args.out.now));
   ends = inl tt;
   refused = tt;
+  off = tt;
 }
 
 pub append_lines-requires : goal.append_lines-requires
@@ -54,4 +56,5 @@ returns g c =
       ends = of_same (λ (n : ℕ). EndsDrive before now (end c.args.words.now.of.log coming n) c.append_lines.result) reads _
           (subst (λ (l : ℕ). EndsDrive before now (end l coming reads) c.append_lines.result) log (subst (λ (i : Option Input). EndsDrive before now (end c.in-Some.spec.log i reads) c.append_lines.result) fresh c.append_lines.ensures.ends)) (search rules);
       refused = c.append_lines.ensures.refused;
+      off = c.append_lines.ensures.off;
     }

@@ -1,5 +1,6 @@
 use Rattle.std.proofs.Common.{◌≡◌, ◌⊎◌, rules, List, ℕ, inr, subst, true, codes}
 use Rattle.ld_rounds.specs.Drives.{IsBroken}
+use Rattle.ld_rounds.specs.Endings.{IsOffAs}
 use Rattle.ld_tail.specs.Tails.{IsTailed, IsTailEnd}
 use Rattle.ld_cli.specs.Clients.{EndsDrive}
 use Rattle.ld_cli.proofs.Drives.{ends_so, driven_so, nothing_read}
@@ -39,3 +40,7 @@ returns-clause-ends g c =
     (ends_so (g.N.Nodes.faults c.args.nodes.now) (g.N.Nodes.faults c.tail-ended.new.nodes) c.failures-before.result c.failures-now.result
     (IsTailEnd (λ place. g.G.Register.told c.args.reg.now → g.G.Register.damaged c.args.reg.now place) (g.G.Register.faults c.args.reg.now) (g.G.Register.faults c.tail-ended.result.1.now) (g.O.Sink.faults c.args.out.now) (g.O.Sink.faults c.tail-ended.new.out))
     c.tail-ended.result.0 c.status_of.result c.failures-before.ensures c.failures-now.ensures c.status_of.ensures c.tail-ended.ensures.cause)
+
+pub returns-clause-off : goal.returns-clause-off
+returns-clause-off g c = ends_so (g.N.Nodes.faults c.args.nodes.now) (g.N.Nodes.faults c.tail-ended.new.nodes) c.failures-before.result c.failures-now.result (IsOffAs (g.N.Nodes.off c.tail-ended.new.nodes))
+    c.tail-ended.result.0 c.status_of.result c.failures-before.ensures c.failures-now.ensures c.status_of.ensures c.tail-ended.ensures.off

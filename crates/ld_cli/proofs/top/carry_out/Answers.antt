@@ -111,3 +111,18 @@ returns-in-Append-clause-appended g c = λ w s far is told begins unset.
     (payloads_in u.batches (g.I.Source.left c.args.input.now)) u.of.rounds (g.N.Nodes.tells c.appended.new.nodes) (g.G.Register.tells c.appended.new.reg) u.of.config s (g.O.Sink.written c.args.out.now) (g.O.Sink.written c.appended.new.out)) c.appended.result)
     (sym same)
     (c.appended.ensures.appended s far (subst (λ (u : AppendWords). g.N.Nodes.tells c.args.nodes.now u.of.config far) same told) (subst (λ (u : AppendWords). Begins (HasNoSequencers (g.G.Register.tells c.args.reg.now)) u.of.config s far) same begins) (subst (λ (u : AppendWords). spec_set u.of.config s u.of.log ≡ first_spec u.of.config u.of.log) same unset))
+
+pub returns-in-Append-clause-off : goal.returns-in-Append-clause-off
+returns-in-Append-clause-off g c = λ is. c.appended.ensures.off
+
+pub returns-in-Tail-clause-off : goal.returns-in-Tail-clause-off
+returns-in-Tail-clause-off g c = λ is. c.tailed.ensures.off
+
+pub returns-in-Replay-clause-off : goal.returns-in-Replay-clause-off
+returns-in-Replay-clause-off g c = λ drives. absurd (subst Drives c.in-Replay.is drives)
+
+pub returns-in-Exercise-clause-off : goal.returns-in-Exercise-clause-off
+returns-in-Exercise-clause-off g c = λ drives. absurd (subst Drives c.in-Exercise.is drives)
+
+pub returns-in-Node-clause-off : goal.returns-in-Node-clause-off
+returns-in-Node-clause-off g c = λ drives. absurd (subst Drives c.in-Node.is drives)

@@ -1,6 +1,7 @@
-use Rattle.std.proofs.Common.{inr, codes, map, string_bytes}
+use Rattle.std.proofs.Common.{inr, sym, subst, codes, map, string_bytes}
 use Rattle.ld_words.specs.declared.command.Command.TheVariants.{Replay, Exercise, Node, Append, Tail}
 use Rattle.ld_rounds.specs.Drives.{IsBroken}
+use Rattle.ld_cli.specs.Clients.{Drives}
 use Rattle.ld_cli.specs.Payloads.{payloads_in}
 use Rattle.ld_cli.proofs.Asked.{asked_one, asked_none}
 use Rattle.ld_cli.proofs.Drives.{nothing_done, nothing_read}
@@ -103,3 +104,10 @@ returns-in-Err-clause-tailed g c = λ t s far asks told begins.
 pub returns-in-Err-clause-appended : goal.returns-in-Err-clause-appended
 returns-in-Err-clause-appended g c = λ w s far asks told begins unset.
     inr (nothing_done (codes "s") w.of.log (IsBroken (g.N.Nodes.faults c.args.nodes.now) (g.N.Nodes.faults c.args.nodes.now) (g.N.Nodes.endings c.args.nodes.now) (g.N.Nodes.endings c.args.nodes.now)) (payloads_in w.batches (g.I.Source.left c.args.input.now)) w.of.rounds w.of.config s (g.O.Sink.written c.args.out.now))
+
+pub returns-in-Ok-Some-clause-off : goal.returns-in-Ok-Some-clause-off
+returns-in-Ok-Some-clause-off g c = λ asked asks drives.
+    c.carry_out.ensures.off (subst Drives (sym (asked_one (map string_bytes c.args.words.now) c.in-Ok-Some.field-0 c.in-Ok-Some.command asked c.in-Ok-Some.field-0-is c.in-Ok-Some.ensures.asks asks)) drives)
+
+pub returns-in-Ok-None-clause-off : goal.returns-in-Ok-None-clause-off
+returns-in-Ok-None-clause-off g c = λ asked asks drives. absurd (asked_none (map string_bytes c.args.words.now) c.in-Ok-None.field-0 asked c.in-Ok-None.field-0-is c.in-Ok-None.ensures.asks asks)
