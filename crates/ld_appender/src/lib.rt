@@ -4,6 +4,3 @@
 mod pending;
 
 pub use pending::{Pending, Progress};
-
-#[cfg(test)]
-mod tests;

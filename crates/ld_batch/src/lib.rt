@@ -7,8 +7,6 @@ mod law;
 mod messages;
 mod pack;
 mod read;
-#[cfg(test)]
-mod tests;
 
 pub use batch::Batch;
 pub use fault::{PushFault, UnpackFault};

@@ -5,9 +5,6 @@ ghost use Rattle.std.specs.Prelude.{◌≡◌};
 ghost use Rattle.ld_op.specs.Plain.{log_of};
 ghost use Rattle.ld_op.specs.Answers.{on_clean, on_trim};
 
-#[cfg(test)]
-mod tests;
-
 use ld_ids::LogId;
 use ld_lsn::Lsn;
 use ld_msg::Summary;

@@ -18,6 +18,3 @@ pub use law::has_one_reading;
 pub use ld_serve::Which;
 pub use status::Status;
 pub use top::run;
-
-#[cfg(test)]
-mod tests;

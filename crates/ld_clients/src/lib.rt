@@ -6,15 +6,9 @@ mod lines;
 mod lookup;
 mod outcome;
 mod places;
-#[cfg(test)]
-mod reader_tests;
 mod readers;
 mod reads;
 mod report;
-#[cfg(test)]
-mod scene;
-#[cfg(test)]
-mod sequencer_tests;
 mod sequencers;
 
 pub use lookup::find_spec;

@@ -18,8 +18,6 @@ mod sets;
 mod specs;
 mod swaps;
 mod take;
-#[cfg(test)]
-mod tests;
 mod ticks;
 
 pub use cluster::Cluster;

@@ -6,6 +6,3 @@ mod nodes;
 
 pub use choice::{Choice, TooFew, choose, choose_for, sender};
 pub use nodes::NodeList;
-
-#[cfg(test)]
-mod tests;

@@ -18,9 +18,6 @@ use ld_io::Failed;
 use ld_msg::Msg;
 use std::alloc::Global;
 
-#[cfg(test)]
-mod tests;
-
 /// Nodes, of which one at a time is present. Before the first `dial` none is.
 pub trait Nodes {
     /// What stands at the nodes, as the written machine has it under a configuration, where this tells it.

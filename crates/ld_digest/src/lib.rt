@@ -4,8 +4,6 @@
 mod added;
 mod count;
 mod digest;
-#[cfg(test)]
-mod tests;
 mod told;
 
 pub use added::{Added, Page};

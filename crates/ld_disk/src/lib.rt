@@ -13,6 +13,3 @@ mod memory;
 pub use disk::{Disk, Fault, Picture};
 pub use laws::{fault_comes_in_its_call, last_picture_decides, reads_are_fine};
 pub use memory::MemDisk;
-
-#[cfg(test)]
-mod tests;

@@ -7,6 +7,3 @@ mod knows;
 mod links;
 
 pub use links::NodeLinks;
-
-#[cfg(test)]
-mod tests;

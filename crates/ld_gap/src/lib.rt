@@ -5,8 +5,6 @@ mod answer;
 mod held;
 mod lost;
 mod table;
-#[cfg(test)]
-mod tests;
 mod verdict;
 
 pub use answer::{Answer, round_of};

@@ -9,6 +9,3 @@ mod shown;
 pub use forms::{FORMS, Form, is_meant};
 pub use recent::Recent;
 pub use shown::explain;
-
-#[cfg(test)]
-mod tests;

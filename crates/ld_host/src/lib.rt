@@ -17,6 +17,3 @@ pub use hosts::Hosts;
 pub use kept::{Formatted, Kept, Status};
 pub use law::disk_stands_for_the_node;
 pub use ld_node::Ticked;
-
-#[cfg(test)]
-mod tests;

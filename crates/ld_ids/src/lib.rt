@@ -6,8 +6,6 @@ mod memory;
 mod name;
 mod payload;
 mod set;
-#[cfg(test)]
-mod tests;
 
 pub use id::{LogId, NodeId};
 pub use memory::NoMemory;

@@ -12,9 +12,6 @@ mod memory;
 pub use fault::{Failed, NoMemory};
 pub use memory::{MemSink, MemSource};
 
-#[cfg(test)]
-mod tests;
-
 /// Where bytes come from. A call fails only where the source's own count of faults rose in it.
 pub trait Source {
     /// The bytes that are left, where the source tells.

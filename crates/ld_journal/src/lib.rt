@@ -11,6 +11,3 @@ pub use fault::JournalFault;
 pub use format::{finished_calls_are_safe, has_one_reading, picture_decides};
 pub use journal::Journal;
 pub use read::{read_record, settle};
-
-#[cfg(test)]
-mod tests;

@@ -15,6 +15,3 @@ pub use layout::{
 };
 pub use listed::{Areas, used};
 pub use segment::{FULL_OPS, LEAST_ROOM, LIMIT, Layout, Segment, base_length};
-
-#[cfg(test)]
-mod tests;

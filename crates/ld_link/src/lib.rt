@@ -13,9 +13,6 @@ mod talk;
 use ld_io::Failed;
 pub use memory::MemLink;
 
-#[cfg(test)]
-mod tests;
-
 /// Peers that come one after the other: before the first `next_peer` none is there. A call fails only where the link's
 /// own count of faults rose in it, and any other answer leaves that count.
 pub trait Link {

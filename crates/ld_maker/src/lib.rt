@@ -9,8 +9,6 @@ mod maker;
 mod named;
 mod summary;
 mod tally;
-#[cfg(test)]
-mod tests;
 
 pub use begin::{configuration, first_events};
 pub use maker::Maker;

@@ -5,8 +5,6 @@ mod entries;
 mod msg;
 mod outbox;
 mod style;
-#[cfg(test)]
-mod tests;
 
 pub use entries::Entries;
 pub use msg::{Body, Entry, Msg, Summary, What, Who};

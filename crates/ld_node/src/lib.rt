@@ -17,10 +17,3 @@ mod tick;
 pub use fault::NodeFault;
 pub use node::Node;
 pub use tick::Ticked;
-
-#[cfg(test)]
-mod register_tests;
-#[cfg(test)]
-mod samples;
-#[cfg(test)]
-mod tests;

@@ -12,14 +12,10 @@ mod entries;
 mod fault;
 mod index;
 mod index_read;
-#[cfg(test)]
-mod index_tests;
 mod known_good;
 mod log;
 mod logs;
 mod missing;
-#[cfg(test)]
-mod off_tests;
 mod op;
 mod page;
 mod plain;
@@ -29,8 +25,6 @@ mod record;
 mod room;
 mod sizes;
 mod summaries;
-#[cfg(test)]
-mod tests;
 mod version;
 
 pub use based::bases_are_read;

@@ -5,8 +5,6 @@ mod claim;
 mod decided;
 mod item;
 mod plans;
-#[cfg(test)]
-mod tests;
 
 pub use claim::Claim;
 pub use decided::Decided;

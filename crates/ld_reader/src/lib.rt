@@ -15,8 +15,6 @@ mod reader;
 mod round;
 mod seen;
 mod senders;
-#[cfg(test)]
-mod tests;
 
 pub use fault::ReaderFault;
 pub use item::{Given, Item, Items};

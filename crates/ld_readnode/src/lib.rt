@@ -4,8 +4,6 @@
 mod answers;
 mod laws;
 mod payloads;
-#[cfg(test)]
-mod tests;
 
 pub use answers::{answer, answer_one, digest};
 pub use laws::{digests_join, read_pages_join};

@@ -4,8 +4,6 @@
 mod asking;
 mod missing;
 mod pages;
-#[cfg(test)]
-mod tests;
 
 pub use asking::asks;
 pub use missing::{is_full, lowest_unclean};

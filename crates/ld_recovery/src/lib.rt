@@ -9,8 +9,6 @@ mod send;
 mod stage;
 mod state;
 mod storing;
-#[cfg(test)]
-mod tests;
 
 pub use laws::{closings_are_summaries, recoveries_hold};
 pub use planned::Planned;

@@ -23,12 +23,3 @@ pub use laws::{
     summaries_stay,
 };
 pub use register::{Drawn, Grant, Register, View};
-
-#[cfg(test)]
-mod asking;
-#[cfg(test)]
-mod faulty_tests;
-#[cfg(test)]
-mod journal_tests;
-#[cfg(test)]
-mod tests;

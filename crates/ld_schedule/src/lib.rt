@@ -11,8 +11,6 @@ mod nodes;
 mod number;
 mod parts;
 mod read;
-#[cfg(test)]
-mod tests;
 mod words;
 
 pub use digits::parse_payload;

@@ -34,6 +34,3 @@ pub use record::append_record;
 pub use slots::{Slot, current, says, second_counts};
 pub use switch::{switch_first, switch_later};
 pub use write::write_op;
-
-#[cfg(test)]
-mod tests;

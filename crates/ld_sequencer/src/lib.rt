@@ -22,12 +22,3 @@ pub use own::{Learnt, OwnEpoch};
 pub use report::Report;
 pub use row::Row;
 pub use whole::Sequencer;
-
-#[cfg(test)]
-mod samples;
-#[cfg(test)]
-mod steps;
-#[cfg(test)]
-mod tests;
-#[cfg(test)]
-mod whole_tests;

@@ -7,8 +7,6 @@ mod input;
 mod opening;
 mod peers;
 mod stop;
-#[cfg(test)]
-mod tests;
 mod turn;
 mod whole;
 

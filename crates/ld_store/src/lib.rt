@@ -5,18 +5,10 @@
 mod fault;
 mod laid;
 mod open;
-#[cfg(test)]
-mod payload_tests;
 mod payloads;
 mod read;
 mod replay;
-#[cfg(test)]
-mod segment_tests;
 mod store;
-#[cfg(test)]
-mod tests;
-#[cfg(test)]
-mod version_tests;
 mod write;
 
 pub use fault::StoreFault;

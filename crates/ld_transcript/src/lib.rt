@@ -5,8 +5,6 @@ mod line;
 mod lines;
 mod parts;
 mod shapes;
-#[cfg(test)]
-mod tests;
 mod text;
 
 pub use line::{Actor, GapKind, Kind, Line};

@@ -4,6 +4,3 @@
 mod window;
 
 pub use window::{Full, Window};
-
-#[cfg(test)]
-mod tests;

@@ -11,14 +11,6 @@ mod head;
 mod laws;
 mod page;
 mod role;
-#[cfg(test)]
-mod said_tests;
-#[cfg(test)]
-mod samples;
-#[cfg(test)]
-mod slow;
-#[cfg(test)]
-mod tests;
 mod write;
 
 pub use decoder::Decoder;

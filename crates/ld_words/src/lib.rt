@@ -16,6 +16,3 @@ pub use command::{AppendWords, Command, LogWords, NodeWords, Places, TailWords};
 pub use file_name::FileName;
 pub use law::words_ask_for_one_command;
 pub use words::{places, read, reason};
-
-#[cfg(test)]
-mod tests;

@@ -1,4 +1,0 @@
-use Rattle.ld_recovery.proofs.tests.close.Goals as goal
-
-pub closed-requires-clause-closing : goal.closed-requires-clause-closing
-closed-requires-clause-closing c = (c.in-Closing.summary, c.in-Closing.field-1, (c.state.ensures.closing c.in-Closing.summary c.in-Closing.field-1 c.in-Closing.is).closing)

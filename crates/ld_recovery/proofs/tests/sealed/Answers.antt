@@ -1,6 +1,0 @@
-use Rattle.std.proofs.Common.{arith}
-use Rattle.ld_recovery.proofs.Replying.{to_two}
-use Rattle.ld_recovery.proofs.tests.sealed.Goals as goal
-
-pub returns : goal.returns
-returns c = λ n h. (to_two n h, omega (arith, c.new.ensures), omega (arith, c.ranges.by.fits))

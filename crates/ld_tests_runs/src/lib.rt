@@ -1,0 +1,7 @@
+//! Tests of clusters and of commands.
+#![tactic(auto)]
+
+#[cfg(test)]
+mod cli;
+#[cfg(test)]
+mod cluster;
