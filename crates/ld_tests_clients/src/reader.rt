@@ -206,6 +206,12 @@ fn gives<G: Register>(
 }
 
 // What a node's answer gives: the first two items as letters, and how many messages were sent until then.
+type Given = (u8, u8, usize);
+
+// A node, the round that it answers, what it says, and what that gives.
+type Row = (u8, u32, Says, Given);
+
+// What a node's answer gives.
 fn hears<G: Register>(
     alloc: Global,
     scene: &mut Scene,
@@ -213,10 +219,35 @@ fn hears<G: Register>(
     number: u8,
     round: u32,
     says: Says,
-) -> Result<(u8, u8, usize), ReaderFault> {
+) -> Result<Given, ReaderFault> {
     let body = answer(alloc, round, says)?;
     let items = gives(alloc, scene, reg, number, body)?;
     Ok((letter(&items, 0), letter(&items, 1), scene.out.len()))
+}
+
+// How many of these answers, from the first one on, give what is told.
+fn as_told<G: Register>(
+    alloc: Global,
+    scene: &mut Scene,
+    reg: &mut G,
+    rows: &[Row],
+) -> Result<usize, ReaderFault> {
+    let mut count = 0usize;
+    for (number, round, says, given) in rows {
+        if hears(alloc, scene, reg, *number, *round, *says)? != *given {
+            return Ok(count);
+        }
+        count = count.saturating_add(1);
+    }
+    Ok(count)
+}
+
+// The same of a reader that has asked the nodes of the first epoch, and whether it is finished then.
+fn reads(alloc: Global, style: Style, rows: &[Row]) -> Result<(usize, bool), ReaderFault> {
+    let mut reg = first_epoch(alloc, 3)?;
+    let mut scene = begin(alloc, &mut reg, style)?;
+    let count = as_told(alloc, &mut scene, &mut reg, rows)?;
+    Ok((count, scene.reader.finished()))
 }
 
 // The item at a place, as one letter, with a dot where there is none.
@@ -266,111 +297,96 @@ const ONLY: Says = Says::Page {
     stands: Stands::Record,
 };
 
-// What stands at the place 1, whether what follows the end is lost, and what the page and the end then give.
-const ENDS: &[(Stands, bool, u8, u8)] = &[
-    (Stands::Hole, false, b'h', b'b'),
-    (Stands::Hole, true, b'h', b'L'),
-    (Stands::Plug, false, b'l', b'b'),
-    (Stands::Plug, true, b'l', b'L'),
-];
+// What stands at the place 1, and an end behind which nothing is lost, or something.
+const HOLE: Says = Says::Page {
+    last: 2,
+    esn: 1,
+    stands: Stands::Hole,
+};
+
+const PLUG: Says = Says::Page {
+    last: 2,
+    esn: 1,
+    stands: Stands::Plug,
+};
+
+const END: Says = Says::Ended { loss: false };
+
+const LOSING_END: Says = Says::Ended { loss: true };
 
 #[test]
 fn a_page_and_an_end_give_all_items_in_order(rt: HostRuntime) -> Result<(), Fail> {
     let alloc = rt.alloc();
-    for (stands, loss, first, second) in ENDS {
-        let mut reg = first_epoch(alloc, 3)?;
-        let mut scene = begin(alloc, &mut reg, Style::EachCopy)?;
-        let page = Says::Page {
-            last: 2,
-            esn: 1,
-            stands: *stands,
-        };
-        let end = Says::Ended { loss: *loss };
-        assert_eq!(rt;
-            hears(alloc, &mut scene, &mut reg, 1, 1, page)?,
-            (*first, b'.', 3)
-        );
-        assert_eq!(rt;
-            hears(alloc, &mut scene, &mut reg, 1, 1, end)?,
-            (*second, b'.', 3)
-        );
-        assert!(rt; scene.reader.finished());
-    }
+    let hole = [(1, 1, HOLE, (b'h', b'.', 3)), (1, 1, END, (b'b', b'.', 3))];
+    assert_eq!(rt; reads(alloc, Style::EachCopy, &hole)?, (2, true));
+    let plug = [
+        (1, 1, PLUG, (b'l', b'.', 3)),
+        (1, 1, LOSING_END, (b'L', b'.', 3)),
+    ];
+    assert_eq!(rt; reads(alloc, Style::EachCopy, &plug)?, (2, true));
     Ok(())
 }
 
 #[test]
 fn a_loss_is_confirmed_before_it_is_given(rt: HostRuntime) -> Result<(), Fail> {
-    let alloc = rt.alloc();
-    let mut reg = first_epoch(alloc, 3)?;
-    let mut scene = begin(alloc, &mut reg, Style::EachCopy)?;
     // the nodes 1 and 3 are lost, and are asked once more; an answer to the first ask is none to the second
-    for (number, round, says, given) in [
+    let rows = [
         (2, 1, SECOND, (b'.', b'.', 3)),
         (1, 1, Says::Lost, (b'.', b'.', 3)),
         (3, 1, Says::Lost, (b'.', b'.', 5)),
         (1, 2, Says::Lost, (b'.', b'.', 5)),
         (3, 1, Says::Lost, (b'.', b'.', 5)),
         (3, 2, Says::Lost, (b'l', b'r', 5)),
-    ] {
-        assert_eq!(rt;
-            hears(alloc, &mut scene, &mut reg, number, round, says)?,
-            given
-        );
-    }
-    assert!(rt; scene.reader.finished());
+    ];
+    assert_eq!(rt; reads(rt.alloc(), Style::EachCopy, &rows)?, (6, true));
     Ok(())
 }
 
 #[test]
 fn a_rebuilt_node_ends_the_confirmation_with_the_record(rt: HostRuntime) -> Result<(), Fail> {
-    let alloc = rt.alloc();
-    let mut reg = first_epoch(alloc, 3)?;
-    let mut scene = begin(alloc, &mut reg, Style::EachCopy)?;
-    for (number, round, says, given) in [
+    let rows = [
         (1, 1, SECOND, (b'.', b'.', 3)),
         (2, 1, Says::Lost, (b'.', b'.', 3)),
         (3, 1, Says::Lost, (b'.', b'.', 5)),
         (2, 2, FIRST, (b'r', b'r', 5)),
-    ] {
-        assert_eq!(rt;
-            hears(alloc, &mut scene, &mut reg, number, round, says)?,
-            given
-        );
-    }
-    assert!(rt; scene.reader.finished());
+    ];
+    assert_eq!(rt; reads(rt.alloc(), Style::EachCopy, &rows)?, (4, true));
     Ok(())
+}
+
+// How many of the first and then of the second answers give what is told, where the set changes between them in so many epochs.
+fn swaps_between(
+    alloc: Global,
+    first: &[Row],
+    second: &[Row],
+) -> Result<(usize, u32, usize), ReaderFault> {
+    let mut reg = first_epoch(alloc, 3)?;
+    let mut scene = begin(alloc, &mut reg, Style::EachCopy)?;
+    let before = as_told(alloc, &mut scene, &mut reg, first)?;
+    close_first(alloc, &mut reg)?;
+    let epochs = swap(alloc, &mut reg)?;
+    Ok((
+        before,
+        epochs,
+        as_told(alloc, &mut scene, &mut reg, second)?,
+    ))
 }
 
 #[test]
 fn where_sets_have_changed_a_round_begins_in_place_of_a_loss(rt: HostRuntime) -> Result<(), Fail> {
-    let alloc = rt.alloc();
-    let mut reg = first_epoch(alloc, 3)?;
-    let mut scene = begin(alloc, &mut reg, Style::EachCopy)?;
-    for (number, round, says, given) in [
+    let first = [
         (2, 1, SECOND, (b'.', b'.', 3)),
         (1, 1, Says::Lost, (b'.', b'.', 3)),
         (3, 1, Says::Lost, (b'.', b'.', 5)),
         (1, 2, Says::Lost, (b'.', b'.', 5)),
-    ] {
-        assert_eq!(rt;
-            hears(alloc, &mut scene, &mut reg, number, round, says)?,
-            given
-        );
-    }
-    close_first(alloc, &mut reg)?;
-    assert_eq!(rt; swap(alloc, &mut reg)?, 1);
+    ];
     // an answer of a round before the new one is not taken any more
-    for (number, round, says, given) in [
+    let second = [
         (3, 2, Says::Lost, (b'.', b'.', 8)),
         (2, 1, FIRST, (b'.', b'.', 8)),
         (4, 3, FIRST, (b'r', b'.', 8)),
-    ] {
-        assert_eq!(rt;
-            hears(alloc, &mut scene, &mut reg, number, round, says)?,
-            given
-        );
-    }
+    ];
+    assert_eq!(rt; swaps_between(rt.alloc(), &first, &second)?, (4, 1, 3));
     Ok(())
 }
 
@@ -381,87 +397,99 @@ const WITHHELD: Says = Says::Page {
     stands: Stands::Withheld,
 };
 
-#[test]
-fn a_record_that_its_sender_lacks_is_asked_of_all(rt: HostRuntime) -> Result<(), Fail> {
-    let alloc = rt.alloc();
+// How many of these answers give a reader what is told that wants one copy, and whether it asks for one in the message before them, and in the first behind them.
+fn spares(alloc: Global, rows: &[Row]) -> Result<(usize, bool, bool), ReaderFault> {
     let mut reg = first_epoch(alloc, 3)?;
     let mut scene = begin(alloc, &mut reg, Style::OneCopy)?;
-    assert!(rt; asks_one(&scene.out, 2));
+    let count = as_told(alloc, &mut scene, &mut reg, rows)?;
+    Ok((count, asks_one(&scene.out, 2), asks_one(&scene.out, 3)))
+}
+
+#[test]
+fn a_record_that_its_sender_lacks_is_asked_of_all(rt: HostRuntime) -> Result<(), Fail> {
     // node 3 is to send the record at the place 1
-    for (number, round, says, given) in [
+    let rows = [
         (1, 1, WITHHELD, (b'.', b'.', 3)),
         (3, 1, SECOND, (b'.', b'.', 6)),
         (1, 2, ONLY, (b'r', b'r', 6)),
-    ] {
-        assert_eq!(rt;
-            hears(alloc, &mut scene, &mut reg, number, round, says)?,
-            given
-        );
-    }
-    assert!(rt; !asks_one(&scene.out, 3));
+    ];
+    assert_eq!(rt; spares(rt.alloc(), &rows)?, (3, true, false));
     Ok(())
+}
+
+// A hole at the place 1, on a page of that place alone.
+const LONE_HOLE: Says = Says::Page {
+    last: 1,
+    esn: 1,
+    stands: Stands::Hole,
+};
+
+// What a reader comes to whose look fails, how many messages it has sent then, and how many of the answers that come behind it give what is told.
+fn looks_again(
+    alloc: Global,
+    rows: &[Row],
+) -> Result<(Result<Given, ReaderFault>, usize, usize), ReaderFault> {
+    let mut reg = first_epoch(alloc, 3)?;
+    let mut scene = begin(alloc, &mut reg, Style::EachCopy)?;
+    let mut failing = failing_register(alloc)?;
+    let failed = hears(alloc, &mut scene, &mut failing, 1, 1, ONLY);
+    let sent = scene.out.len();
+    Ok((failed, sent, as_told(alloc, &mut scene, &mut reg, rows)?))
 }
 
 #[test]
 fn a_failed_look_leaves_the_reader_as_it_was(rt: HostRuntime) -> Result<(), Fail> {
-    let alloc = rt.alloc();
-    let mut reg = first_epoch(alloc, 3)?;
-    let mut scene = begin(alloc, &mut reg, Style::EachCopy)?;
-    let mut failing = failing_register(alloc)?;
-    assert_eq!(rt;
-        hears(alloc, &mut scene, &mut failing, 1, 1, ONLY),
-        Err(ReaderFault::Register(RegisterFault::Failed))
-    );
-    assert_eq!(rt; scene.out.len(), 3);
     // an answer of the round before it doesn't come too late, as no answer is held
-    let hole = Says::Page {
-        last: 1,
-        esn: 1,
-        stands: Stands::Hole,
-    };
-    assert_eq!(rt;
-        hears(alloc, &mut scene, &mut reg, 1, 0, hole)?,
-        (b'h', b'.', 6)
-    );
+    let told = looks_again(rt.alloc(), &[(1, 0, LONE_HOLE, (b'h', b'.', 6))])?;
+    let failed = Err(ReaderFault::Register(RegisterFault::Failed));
+    assert_eq!(rt; told, (failed, 3, 1));
     Ok(())
+}
+
+// How many nodes a reader asks that the register shows, what a record gives, and how many it has asked where it then shows none.
+fn asks_the_shown(alloc: Global) -> Result<(usize, Given, usize), ReaderFault> {
+    let mut reg = first_epoch(alloc, 2)?;
+    let mut scene = begin(alloc, &mut reg, Style::EachCopy)?;
+    let sent = scene.out.len();
+    let given = hears(alloc, &mut scene, &mut reg, 1, 1, ONLY)?;
+    let mut empty = new_register(alloc)?;
+    Ok((sent, given, asks(alloc, &mut scene, &mut empty)?))
 }
 
 #[test]
 fn a_reader_asks_the_nodes_that_the_register_shows(rt: HostRuntime) -> Result<(), Fail> {
-    let alloc = rt.alloc();
-    let mut reg = first_epoch(alloc, 2)?;
-    let mut scene = begin(alloc, &mut reg, Style::EachCopy)?;
-    assert_eq!(rt; scene.out.len(), 2);
-    assert_eq!(rt;
-        hears(alloc, &mut scene, &mut reg, 1, 1, ONLY)?,
-        (b'r', b'.', 4)
-    );
     // where it shows none, the first nodes of the log
-    let mut empty = new_register(alloc)?;
-    assert_eq!(rt; asks(alloc, &mut scene, &mut empty)?, 7);
+    assert_eq!(rt; asks_the_shown(rt.alloc())?, (2, (b'r', b'.', 4), 7));
     Ok(())
+}
+
+// How many of the answers give what is told to a reader that looked before its epoch was handed out, how many messages it has sent at its next ask, and
+// how many of the answers behind that do.
+fn looks_early(
+    alloc: Global,
+    first: &[Row],
+    second: &[Row],
+) -> Result<(usize, usize, usize), ReaderFault> {
+    let mut reg = new_register(alloc)?;
+    let mut scene = begin(alloc, &mut reg, Style::EachCopy)?;
+    hand_out(alloc, &mut reg, 2)?;
+    let before = as_told(alloc, &mut scene, &mut reg, first)?;
+    let sent = asks(alloc, &mut scene, &mut reg)?;
+    Ok((before, sent, as_told(alloc, &mut scene, &mut reg, second)?))
 }
 
 #[test]
 fn a_look_before_its_epoch_gives_no_loss(rt: HostRuntime) -> Result<(), Fail> {
-    let alloc = rt.alloc();
-    let mut reg = new_register(alloc)?;
-    let mut scene = begin(alloc, &mut reg, Style::EachCopy)?;
-    hand_out(alloc, &mut reg, 2)?;
-    for (number, says) in [(2, SECOND), (1, Says::Lost), (3, Says::Lost)] {
-        assert_eq!(rt;
-            hears(alloc, &mut scene, &mut reg, number, 1, says)?,
-            (b'.', b'.', 3)
-        );
-    }
+    let first = [
+        (2, 1, SECOND, (b'.', b'.', 3)),
+        (1, 1, Says::Lost, (b'.', b'.', 3)),
+        (3, 1, Says::Lost, (b'.', b'.', 3)),
+    ];
     // after the next look the lost node of the epoch is asked once more
-    assert_eq!(rt; asks(alloc, &mut scene, &mut reg)?, 5);
-    for (round, given) in [(2, (b'.', b'.', 6)), (3, (b'l', b'r', 6))] {
-        assert_eq!(rt;
-            hears(alloc, &mut scene, &mut reg, 1, round, Says::Lost)?,
-            given
-        );
-    }
-    assert!(rt; scene.reader.finished());
+    let second = [
+        (1, 2, Says::Lost, (b'.', b'.', 6)),
+        (1, 3, Says::Lost, (b'l', b'r', 6)),
+    ];
+    assert_eq!(rt; looks_early(rt.alloc(), &first, &second)?, (3, 5, 2));
     Ok(())
 }

@@ -9,7 +9,7 @@ use crate::sequencer::samples::{one_byte, set_of};
 use ld_ids::{LogId, NoMemory, NodeId, Spec};
 use ld_lsn::Lsn;
 use ld_msg::{Body, Msg, Outbox, Who};
-use ld_sequencer::{Learnt, Origin, OwnEpoch, SequencerFault};
+use ld_sequencer::{Origin, OwnEpoch, SequencerFault};
 use std::alloc::Global;
 use std::test::Fail;
 
@@ -54,89 +54,96 @@ fn stored(log: LogId, node: u8, epoch: u32, esn: u32) -> Msg {
     from_node(log, node, Body::Stored { number })
 }
 
-// One byte is appended.
-fn appends(alloc: Global, own: &mut OwnEpoch, out: &mut Outbox) -> Result<Lsn, SequencerFault> {
-    own.append(alloc, one_byte(alloc)?, out)
-}
-
-// A message comes.
-fn comes(own: &mut OwnEpoch, msg: &Msg, out: &mut Outbox) -> Result<Learnt, NoMemory> {
-    own.on_reply(msg, out)
-}
-
-#[test]
-fn an_append_is_acknowledged_at_the_second_node(rt: HostRuntime) -> Result<(), Fail> {
-    let alloc = rt.alloc();
-    let log = LogId::new(1).expect(&rt, "a log");
+// What the sequencer of epoch 3 comes to: of an append and of the nodes that then store it, the number where it is acknowledged; how many messages it sends,
+// and what is released.
+fn acked(
+    alloc: Global,
+    log: LogId,
+    nodes: [u8; 4],
+) -> Result<([u64; 4], usize, u64), SequencerFault> {
     let mut out = Outbox::empty(alloc);
     let mut own = starts(alloc, log, 2)?;
-    let number = Lsn::new(3, 1);
-    let appended = appends(alloc, &mut own, &mut out);
-    assert_eq!(rt; appended, Ok(number));
-    let one = comes(&mut own, &stored(log, 1, 3, 1), &mut out)?;
-    assert_eq!(rt; one.acked, None);
-    let two = comes(&mut own, &stored(log, 2, 3, 1), &mut out)?;
-    assert_eq!(rt; two.acked, Some(number));
-    assert_eq!(rt; own.released(), number);
-    // two stores, and three times the word that it is released
-    assert_eq!(rt; out.len(), 5);
-    Ok(())
-}
-
-#[test]
-fn a_stranger_acknowledges_nothing(rt: HostRuntime) -> Result<(), Fail> {
-    let alloc = rt.alloc();
-    let log = LogId::new(1).expect(&rt, "a log");
-    let mut out = Outbox::empty(alloc);
-    let mut own = starts(alloc, log, 2)?;
-    let number = Lsn::new(3, 1);
-    let appended = appends(alloc, &mut own, &mut out);
-    assert_eq!(rt; appended, Ok(number));
-    'nodes: for (node, acked) in [(1, None), (4, None), (1, None), (3, Some(number))] {
-        let learnt = comes(&mut own, &stored(log, node, 3, 1), &mut out)?;
-        assert_eq!(rt; learnt.acked, acked);
+    let _ = own.append(alloc, one_byte(alloc)?, &mut out)?;
+    let mut acked = [0; 4];
+    let mut place = 0usize;
+    'nodes: for node in nodes {
+        let learnt = own.on_reply(&stored(log, node, 3, 1), &mut out)?;
+        if let (Some(number), true) = (learnt.acked, place < 4) {
+            acked[place] = number.value();
+        }
+        place = place.saturating_add(1);
     }
-    Ok(())
+    Ok((acked, out.len(), own.released().value()))
 }
 
 #[test]
-fn a_greater_seal_preempts(rt: HostRuntime) -> Result<(), Fail> {
-    let alloc = rt.alloc();
+fn an_append_is_acknowledged_at_the_second_node_of_its_set(rt: HostRuntime) -> Result<(), Fail> {
     let log = LogId::new(1).expect(&rt, "a log");
+    let number = Lsn::new(3, 1).value();
+    // two stores, and three times the word that it is released; a stranger acknowledges nothing, nor does a node that stored it already
+    assert_eq!(rt;
+        acked(rt.alloc(), log, [1, 4, 1, 3])?,
+        ([0, 0, 0, number], 5, number)
+    );
+    Ok(())
+}
+
+// Which epoch preempts the sequencer where a node says so, and how its next append ends.
+fn preempted(
+    alloc: Global,
+    log: LogId,
+) -> Result<(Option<u32>, Result<Lsn, SequencerFault>), NoMemory> {
     let mut out = Outbox::empty(alloc);
     let mut own = starts(alloc, log, 2)?;
     let number = Lsn::new(3, 1);
     let greater = from_node(log, 1, Body::SealedHere { number, sealed: 5 });
-    let learnt = comes(&mut own, &greater, &mut out)?;
-    assert_eq!(rt; learnt.preempted, Some(5));
-    let refused = appends(alloc, &mut own, &mut out);
-    assert_eq!(rt; refused, Err(SequencerFault::Preempted(5)));
+    let learnt = own.on_reply(&greater, &mut out)?;
+    Ok((
+        learnt.preempted,
+        own.append(alloc, one_byte(alloc)?, &mut out),
+    ))
+}
+
+#[test]
+fn a_greater_seal_preempts(rt: HostRuntime) -> Result<(), Fail> {
+    let log = LogId::new(1).expect(&rt, "a log");
+    let told = preempted(rt.alloc(), log)?;
+    assert_eq!(rt; told, (Some(5), Err(SequencerFault::Preempted(5))));
     Ok(())
+}
+
+// What is released once the epochs before are closed, and how many messages a trim and that send.
+fn closes_through(alloc: Global, log: LogId) -> Result<(u64, usize), SequencerFault> {
+    let mut out = Outbox::empty(alloc);
+    let mut own = starts(alloc, log, 1)?;
+    own.trim(Lsn::new(2, 0), &mut out)?;
+    own.close_through(2, &mut out)?;
+    Ok((own.released().value(), out.len()))
 }
 
 #[test]
 fn what_is_released_rises_once_earlier_epochs_are_closed(rt: HostRuntime) -> Result<(), Fail> {
-    let alloc = rt.alloc();
     let log = LogId::new(1).expect(&rt, "a log");
-    let mut out = Outbox::empty(alloc);
-    let mut own = starts(alloc, log, 1)?;
-    assert_eq!(rt; own.trim(Lsn::new(2, 0), &mut out), Ok(()));
-    own.close_through(2, &mut out)?;
-    assert_eq!(rt; own.released(), Lsn::new(3, 0));
     // a trim to each of the four nodes, and the word of what is released to the three of the epoch
-    assert_eq!(rt; out.len(), 7);
+    assert_eq!(rt;
+        closes_through(rt.alloc(), log)?,
+        (Lsn::new(3, 0).value(), 7)
+    );
     Ok(())
+}
+
+// How many messages an append and a retry of it send.
+fn retried(alloc: Global, log: LogId) -> Result<usize, SequencerFault> {
+    let mut out = Outbox::empty(alloc);
+    let mut own = starts(alloc, log, 2)?;
+    let _ = own.append(alloc, one_byte(alloc)?, &mut out)?;
+    own.retry(alloc, &mut out)?;
+    Ok(out.len())
 }
 
 #[test]
 fn a_retry_sends_to_those_that_have_not_stored(rt: HostRuntime) -> Result<(), Fail> {
-    let alloc = rt.alloc();
     let log = LogId::new(1).expect(&rt, "a log");
-    let mut out = Outbox::empty(alloc);
-    let mut own = starts(alloc, log, 2)?;
-    let appended = appends(alloc, &mut own, &mut out);
-    assert_eq!(rt; appended, Ok(Lsn::new(3, 1)));
-    own.retry(alloc, &mut out)?;
-    assert_eq!(rt; out.len(), 4);
+    assert_eq!(rt; retried(rt.alloc(), log)?, 4);
     Ok(())
 }

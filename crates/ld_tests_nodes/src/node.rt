@@ -6,7 +6,7 @@ ghost use Rattle.std.specs.Prelude.{IfOk};
 ghost use Rattle.ld_msg.specs.Bounds.{IsMessage, Fits};
 ghost use Rattle.ld_msg.specs.declared.msg.Who.TheVariants as whos;
 
-use crate::node::samples::{formatted, loaded, log_of, node_of, older_disk};
+use crate::node::samples::{formatted, loaded, log_of, node_of};
 use ld_disk::{Disk, Fault};
 use ld_ids::{NoMemory, Payload};
 use ld_lsn::Lsn;
@@ -154,109 +154,73 @@ fn digest_byte<D: Disk>(alloc: Global, node: &mut Node<D>) -> Result<u8, NodeFau
     }
 }
 
-#[test]
-fn a_store_is_there_after_a_load(rt: HostRuntime) -> Result<(), Fail> {
-    let alloc = rt.alloc();
+/// How many entries and which byte a node tells of once it is loaded again, which took a record and another one in its place.
+fn told_of_the_other(alloc: Global) -> Result<(Answer, u8), NodeFault> {
     let mut node = formatted(alloc)?;
-    assert_eq!(rt; give_store(alloc, &mut node), Ok(Answer::Stored));
+    let _ = give_store(alloc, &mut node)?;
+    let _ = give_other_store(alloc, &mut node)?;
     let mut again = loaded(alloc, node.into_disk())?;
-    assert_eq!(rt;
-        give_digest_ask(alloc, &mut again),
-        Ok(Answer::PageOf(1, 0))
-    );
-    Ok(())
+    let page = give_digest_ask(alloc, &mut again)?;
+    Ok((page, digest_byte(alloc, &mut again)?))
 }
 
 #[test]
-fn a_digest_has_what_was_stored(rt: HostRuntime) -> Result<(), Fail> {
-    let alloc = rt.alloc();
-    let mut node = formatted(alloc)?;
-    assert_eq!(rt; give_store(alloc, &mut node), Ok(Answer::Stored));
-    let mut again = loaded(alloc, node.into_disk())?;
-    assert_eq!(rt; digest_byte(alloc, &mut again), Ok(9));
+fn what_is_stored_is_there_after_a_load(rt: HostRuntime) -> Result<(), Fail> {
+    assert_eq!(rt; told_of_the_other(rt.alloc())?, (Answer::PageOf(1, 0), 8));
     Ok(())
+}
+
+/// What a node whose next call of this kind fails answers to the record that it has, and then to another one.
+fn answered_with(alloc: Global, fault: Fault) -> Result<[Result<Answer, NodeFault>; 2], NodeFault> {
+    let mut node = formatted(alloc)?;
+    let _ = give_store(alloc, &mut node)?;
+    node.arm(fault);
+    Ok([
+        give_store(alloc, &mut node),
+        give_other_store(alloc, &mut node),
+    ])
 }
 
 #[test]
 fn what_is_there_already_is_not_written_again(rt: HostRuntime) -> Result<(), Fail> {
-    let alloc = rt.alloc();
-    let mut node = formatted(alloc)?;
-    assert_eq!(rt; give_store(alloc, &mut node), Ok(Answer::Stored));
-    node.arm(Fault::FailAt(1));
-    assert_eq!(rt; give_store(alloc, &mut node), Ok(Answer::Stored));
-    assert_eq!(rt; give_other_store(alloc, &mut node), Err(NodeFault::Disk));
-    Ok(())
-}
-
-#[test]
-fn another_payload_is_taken(rt: HostRuntime) -> Result<(), Fail> {
-    let alloc = rt.alloc();
-    let mut node = formatted(alloc)?;
-    assert_eq!(rt; give_store(alloc, &mut node), Ok(Answer::Stored));
-    assert_eq!(rt; give_other_store(alloc, &mut node), Ok(Answer::Stored));
-    assert_eq!(rt; digest_byte(alloc, &mut node), Ok(8));
+    let answers = answered_with(rt.alloc(), Fault::FailAt(1))?;
+    assert_eq!(rt; answers, [Ok(Answer::Stored), Err(NodeFault::Disk)]);
     Ok(())
 }
 
 #[test]
 fn a_node_whose_read_failed_has_to_be_loaded_again(rt: HostRuntime) -> Result<(), Fail> {
-    let alloc = rt.alloc();
-    let mut node = formatted(alloc)?;
-    assert_eq!(rt; give_store(alloc, &mut node), Ok(Answer::Stored));
-    node.arm(Fault::FailReadAt(1));
-    assert_eq!(rt; give_store(alloc, &mut node), Err(NodeFault::Disk));
-    assert_eq!(rt;
-        give_digest_ask(alloc, &mut node),
-        Err(NodeFault::NeedsLoad)
-    );
+    let answers = answered_with(rt.alloc(), Fault::FailReadAt(1))?;
+    assert_eq!(rt; answers, [Err(NodeFault::Disk), Err(NodeFault::NeedsLoad)]);
     Ok(())
 }
 
-#[test]
-fn a_store_of_the_first_version_is_loaded(rt: HostRuntime) -> Result<(), Fail> {
-    let alloc = rt.alloc();
-    let mut node = loaded(alloc, older_disk(alloc)?)?;
-    assert_eq!(rt; give_store(alloc, &mut node), Ok(Answer::Stored));
+/// What a node tells once it is loaded again, which took the second record.
+fn told_of_the_second(alloc: Global) -> Result<Answer, NodeFault> {
+    let mut node = formatted(alloc)?;
+    let _ = give_second_store(alloc, &mut node)?;
     let mut again = loaded(alloc, node.into_disk())?;
-    assert_eq!(rt;
-        give_digest_ask(alloc, &mut again),
-        Ok(Answer::PageOf(1, 0))
-    );
-    Ok(())
+    give_digest_ask(alloc, &mut again)
 }
 
 #[test]
 fn what_is_known_good_is_there_after_a_load(rt: HostRuntime) -> Result<(), Fail> {
-    let alloc = rt.alloc();
-    let mut node = formatted(alloc)?;
-    assert_eq!(rt; give_second_store(alloc, &mut node), Ok(Answer::Stored));
-    let mut again = loaded(alloc, node.into_disk())?;
-    assert_eq!(rt;
-        give_digest_ask(alloc, &mut again),
-        Ok(Answer::PageOf(1, 1))
-    );
+    assert_eq!(rt; told_of_the_second(rt.alloc())?, Answer::PageOf(1, 1));
     Ok(())
 }
 
-#[test]
-fn a_refused_store_tells_nothing_known_good(rt: HostRuntime) -> Result<(), Fail> {
-    let alloc = rt.alloc();
+/// What a node that is asked for a digest answers to a record once it is loaded again, and to the ask once more.
+fn told_under_a_seal(alloc: Global) -> Result<[Answer; 2], NodeFault> {
     let mut node = formatted(alloc)?;
-    assert_eq!(rt; give_digest_ask(alloc, &mut node), Ok(Answer::PageOf(0, 0)));
-    assert_eq!(rt;
-        give_second_store(alloc, &mut node),
-        Ok(Answer::SealedUnder(2))
-    );
-    assert_eq!(rt; give_digest_ask(alloc, &mut node), Ok(Answer::PageOf(0, 0)));
-    Ok(())
+    let _ = give_digest_ask(alloc, &mut node)?;
+    let mut again = loaded(alloc, node.into_disk())?;
+    let refused = give_second_store(alloc, &mut again)?;
+    Ok([refused, give_digest_ask(alloc, &mut again)?])
 }
 
 #[test]
-fn a_seal_is_there_after_a_load(rt: HostRuntime) -> Result<(), Fail> {
-    let alloc = rt.alloc();
-    let mut node = formatted(alloc)?;
-    assert_eq!(rt; give_digest_ask(alloc, &mut node), Ok(Answer::PageOf(0, 0)));
-    let mut again = loaded(alloc, node.into_disk())?;
-    assert_eq!(rt; give_store(alloc, &mut again), Ok(Answer::SealedUnder(2)));
+fn a_store_refused_under_a_seal_tells_nothing_known_good(rt: HostRuntime) -> Result<(), Fail> {
+    let answers = told_under_a_seal(rt.alloc())?;
+    assert_eq!(rt; answers, [Answer::SealedUnder(2), Answer::PageOf(0, 0)]);
     Ok(())
 }

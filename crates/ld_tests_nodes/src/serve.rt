@@ -60,16 +60,6 @@ fn ask(alloc: Global) -> Result<Vec<u8>, NoMemory> {
     Ok(bytes)
 }
 
-/// A disk with the format under generation 1, as the first version of journals wrote it.
-fn older_disk(alloc: Global) -> Result<MemDisk, Fail> {
-    let bytes = [1, 0, 0, 0, 6, 1, 0, 0, 0, 1, 0, 0];
-    let mut disk = new_disk(alloc)?;
-    disk.reserve(bytes.len() as u64, 2)?;
-    disk.write_at(0, &bytes)?;
-    disk.sync()?;
-    Ok(disk)
-}
-
 /// Node 1 serves on a blank disk.
 fn serves(alloc: Global, format: bool, turns: u64, link: &mut MemLink) -> Result<(), Stop> {
     let Ok(mut disk) = new_disk(alloc) else {
@@ -94,63 +84,29 @@ fn serves_on(
     serve(alloc, node, &config, format, turns, disk, &mut reg, link)
 }
 
-#[test]
-fn an_ask_is_answered(rt: HostRuntime) -> Result<(), Fail> {
-    let alloc = rt.alloc();
-    let mut link = new_link(alloc, vec![in alloc; ask(alloc)?]?, Vec::new(alloc))?;
-    assert_eq!(rt; serves(alloc, true, 1, &mut link), Ok(()));
-    assert_eq!(rt; link.sent(0), Some(ENDED.as_slice()));
-    Ok(())
+/// Whether a peer of a link was answered with these bytes.
+fn is_answered(link: &MemLink, peer: usize, bytes: &[u8]) -> bool {
+    link.sent(peer) == Some(bytes)
 }
 
-#[test]
-fn a_store_of_the_first_version_is_served(rt: HostRuntime) -> Result<(), Fail> {
-    let alloc = rt.alloc();
-    let mut disk = older_disk(alloc)?;
-    let mut link = new_link(alloc, vec![in alloc; ask(alloc)?]?, Vec::new(alloc))?;
-    assert_eq!(rt; serves_on(alloc, false, 1, &mut disk, &mut link), Ok(()));
-    assert_eq!(rt; link.sent(0), Some(ENDED.as_slice()));
-    // its format, and a mark behind that
-    assert_eq!(rt; disk.len()?, 19);
-    Ok(())
-}
-
-#[test]
-fn frames_are_answered_in_order_up_to_the_last_turn(rt: HostRuntime) -> Result<(), Fail> {
-    let alloc = rt.alloc();
+/// How node 1 ends that serves a peer's two asks in so many turns, and how many bytes it was answered; 999 where none came.
+fn asked_twice(
+    alloc: Global,
+    turns: u64,
+    fails: Vec<u64>,
+) -> Result<(Result<(), Stop>, usize), NoMemory> {
     let mut asks = ask(alloc)?;
     asks.extend_from_slice(&ASK)?;
-    asks.extend_from_slice(&ASK)?;
-    let mut link = new_link(alloc, vec![in alloc; asks]?, Vec::new(alloc))?;
-    assert_eq!(rt; serves(alloc, true, 2, &mut link), Ok(()));
-    let mut answers = Vec::new(alloc);
-    answers.extend_from_slice(&ENDED)?;
-    answers.extend_from_slice(&ENDED)?;
-    assert_eq!(rt; link.sent(0), Some(answers.as_slice()));
-    Ok(())
+    let mut link = new_link(alloc, vec![in alloc; asks]?, fails)?;
+    let end = serves(alloc, true, turns, &mut link);
+    Ok((end, link.sent(0).map_or(999, |bytes| bytes.len())))
 }
 
 #[test]
-fn a_frame_that_is_cut_is_dropped(rt: HostRuntime) -> Result<(), Fail> {
+fn frames_are_answered_up_to_the_last_turn(rt: HostRuntime) -> Result<(), Fail> {
     let alloc = rt.alloc();
-    let cut = vec![in alloc; 0, 0, 0, 27, 12]?;
-    let mut link = new_link(alloc, vec![in alloc; cut, ask(alloc)?]?, Vec::new(alloc))?;
-    assert_eq!(rt; serves(alloc, true, 9, &mut link), Ok(()));
-    let none: [u8; 0] = [];
-    assert_eq!(rt; link.sent(0), Some(none.as_slice()));
-    assert_eq!(rt; link.sent(1), Some(ENDED.as_slice()));
-    Ok(())
-}
-
-#[test]
-fn what_is_no_frame_stops_it(rt: HostRuntime) -> Result<(), Fail> {
-    let alloc = rt.alloc();
-    let bytes = vec![in alloc; 0, 0, 0, 1, 200]?;
-    let mut link = new_link(alloc, vec![in alloc; bytes]?, Vec::new(alloc))?;
-    assert_eq!(rt;
-        serves(alloc, true, 9, &mut link),
-        Err(Stop::BadFrame(WireFault::BadKind(200)))
-    );
+    assert_eq!(rt; asked_twice(alloc, 1, Vec::new(alloc))?, (Ok(()), 40));
+    assert_eq!(rt; asked_twice(alloc, 9, Vec::new(alloc))?, (Ok(()), 80));
     Ok(())
 }
 
@@ -158,14 +114,43 @@ fn what_is_no_frame_stops_it(rt: HostRuntime) -> Result<(), Fail> {
 fn a_failed_call_of_the_link_stops_it(rt: HostRuntime) -> Result<(), Fail> {
     let alloc = rt.alloc();
     // the next peer, a read of two asks, and the writes of their answers
-    let told: [Option<&[u8]>; 4] = [None, Some(b""), Some(b""), Some(&ENDED)];
-    for (call, answered) in told.iter().enumerate() {
-        let mut asks = ask(alloc)?;
-        asks.extend_from_slice(&ASK)?;
-        let mut link = new_link(alloc, vec![in alloc; asks]?, vec![in alloc; call as u64]?)?;
-        assert_eq!(rt; serves(alloc, true, 9, &mut link), Err(Stop::Link));
-        assert_eq!(rt; link.sent(0), *answered);
+    for (call, answered) in [(0, 999), (1, 0), (2, 0), (3, 40)] {
+        let fails = vec![in alloc; call]?;
+        assert_eq!(rt; asked_twice(alloc, 9, fails)?, (Err(Stop::Link), answered));
     }
+    Ok(())
+}
+
+/// How node 1 ends that serves a peer with a part of a frame and one with an ask, and whether the first is answered nothing and the second all.
+fn cut_and_whole(alloc: Global) -> Result<(Result<(), Stop>, bool, bool), NoMemory> {
+    let cut = vec![in alloc; 0, 0, 0, 27, 12]?;
+    let mut link = new_link(alloc, vec![in alloc; cut, ask(alloc)?]?, Vec::new(alloc))?;
+    let end = serves(alloc, true, 9, &mut link);
+    Ok((
+        end,
+        is_answered(&link, 0, &[]),
+        is_answered(&link, 1, &ENDED),
+    ))
+}
+
+#[test]
+fn a_frame_that_is_cut_is_dropped(rt: HostRuntime) -> Result<(), Fail> {
+    assert_eq!(rt; cut_and_whole(rt.alloc())?, (Ok(()), true, true));
+    Ok(())
+}
+
+/// How node 1 ends that serves a peer with these bytes, or doesn't, on a blank disk.
+fn ends(alloc: Global, format: bool, bytes: &[u8]) -> Result<Result<(), Stop>, NoMemory> {
+    let peer = Vec::from_slice(alloc, bytes)?;
+    let mut link = new_link(alloc, vec![in alloc; peer]?, Vec::new(alloc))?;
+    Ok(serves(alloc, format, 9, &mut link))
+}
+
+#[test]
+fn what_is_no_frame_and_a_blank_disk_stop_it(rt: HostRuntime) -> Result<(), Fail> {
+    let kind = Err(Stop::BadFrame(WireFault::BadKind(200)));
+    assert_eq!(rt; ends(rt.alloc(), true, &[0, 0, 0, 1, 200])?, kind);
+    assert_eq!(rt; ends(rt.alloc(), false, &ASK)?, Err(Stop::Blank));
     Ok(())
 }
 
@@ -198,24 +183,26 @@ fn is_stored(
     Ok((end, link.sent(0) == Some(STORED.as_slice())))
 }
 
+/// How node 1 ends on a disk whose call of this count fails that writes, or whose first read, and once more on it as it is then.
+fn failed_and_again(alloc: Global, call: u8) -> Result<[(Result<(), Stop>, bool); 2], NoMemory> {
+    let mut disk = new_disk(alloc)?;
+    let mut nobody = new_link(alloc, Vec::new(alloc), Vec::new(alloc))?;
+    let _ = serves_on(alloc, true, 1, &mut disk, &mut nobody);
+    disk.arm(if call == 5 {
+        Fault::FailReadAt(1)
+    } else {
+        Fault::FailAt(u64::from(call) + 1)
+    });
+    let first = is_stored(alloc, false, &mut disk)?;
+    Ok([first, is_stored(alloc, false, &mut disk)?])
+}
+
 #[test]
 fn a_failed_call_of_the_disk_stops_it(rt: HostRuntime) -> Result<(), Fail> {
-    let alloc = rt.alloc();
     // the load's sync, the four calls of the record, and the first read of the load
-    for call in 0..6 {
-        let mut disk = new_disk(alloc)?;
-        let mut nobody = new_link(alloc, Vec::new(alloc), Vec::new(alloc))?;
-        assert_eq!(rt; serves_on(alloc, true, 1, &mut disk, &mut nobody), Ok(()));
-        disk.arm(if call == 5 {
-            Fault::FailReadAt(1)
-        } else {
-            Fault::FailAt(call + 1)
-        });
-        assert_eq!(rt;
-            is_stored(alloc, false, &mut disk)?,
-            (Err(Stop::Disk), false)
-        );
-        assert_eq!(rt; is_stored(alloc, false, &mut disk)?, (Ok(()), true));
+    for call in [0, 1, 2, 3, 4, 5] {
+        let ends = failed_and_again(rt.alloc(), call)?;
+        assert_eq!(rt; ends, [(Err(Stop::Disk), false), (Ok(()), true)]);
     }
     Ok(())
 }
@@ -237,23 +224,20 @@ fn is_read(alloc: Global, disk: &mut MemDisk) -> Result<(Result<(), Stop>, bool)
     Ok((end, link.sent(0) == Some(STORED.as_slice())))
 }
 
-#[test]
-fn a_failed_read_of_a_payload_stops_it(rt: HostRuntime) -> Result<(), Fail> {
-    let alloc = rt.alloc();
+/// How node 1 ends that stores a record which isn't there, reads none of it, is given it once more and fails in that read, and is given it again.
+fn compared(alloc: Global) -> Result<[(Result<(), Stop>, bool); 3], NoMemory> {
     let mut disk = new_disk(alloc)?;
-    // a record that isn't there is stored, and no payload is read
-    assert_eq!(rt; is_stored(alloc, true, &mut disk)?, (Ok(()), true));
-    // the same once more is compared with the payload that is there
-    assert_eq!(rt; is_read(alloc, &mut disk)?, (Err(Stop::Disk), false));
-    assert_eq!(rt; is_stored(alloc, false, &mut disk)?, (Ok(()), true));
-    Ok(())
+    let first = is_stored(alloc, true, &mut disk)?;
+    let second = is_read(alloc, &mut disk)?;
+    Ok([first, second, is_stored(alloc, false, &mut disk)?])
 }
 
 #[test]
-fn a_blank_disk_is_refused(rt: HostRuntime) -> Result<(), Fail> {
-    let alloc = rt.alloc();
-    let mut link = new_link(alloc, vec![in alloc; ask(alloc)?]?, Vec::new(alloc))?;
-    assert_eq!(rt; serves(alloc, false, 9, &mut link), Err(Stop::Blank));
-    assert_eq!(rt; link.sent(0), None);
+fn a_failed_read_of_a_payload_stops_it(rt: HostRuntime) -> Result<(), Fail> {
+    let ends = compared(rt.alloc())?;
+    assert_eq!(rt;
+        ends,
+        [(Ok(()), true), (Err(Stop::Disk), false), (Ok(()), true)]
+    );
     Ok(())
 }

@@ -58,25 +58,14 @@ fn sink(alloc: Global, fails: &[u64]) -> Result<MemSink, Fail> {
     Ok(MemSink::new(alloc, 1_000, fails)?)
 }
 
-/// A command over a source and a sink: its status, and what was written.
+/// A command over a source, a sink and these: its status, what was written, and what the first peer was sent.
 fn performed(
-    alloc: Global,
-    words: &[&str],
-    input: MemSource,
-    out: MemSink,
-) -> Result<(Status, Vec<u8>), Fail> {
-    let o = outside_with(alloc, no_peer(alloc)?)?;
-    performed_with(alloc, words, input, out, o)
-}
-
-/// A command over these.
-fn performed_with(
     alloc: Global,
     words: &[&str],
     mut input: MemSource,
     mut out: MemSink,
     mut o: Outside,
-) -> Result<(Status, Vec<u8>), Fail> {
+) -> Result<(Status, Vec<u8>, Vec<u8>), Fail> {
     let words = strings(alloc, words)?;
     let mut nodes = Framed::new(alloc, no_peer(alloc)?);
     let status = run(
@@ -89,26 +78,34 @@ fn performed_with(
         &mut o.link,
         &mut nodes,
     );
-    Ok((status, Vec::from_slice(alloc, out.bytes())?))
+    let written = Vec::from_slice(alloc, out.bytes())?;
+    let sent = o.link.sent(0).unwrap_or(b"");
+    Ok((status, written, Vec::from_slice(alloc, sent)?))
 }
 
-/// A replay of this input, with the calls that are to fail.
-fn replayed(
+/// The status of a command over this input, with the calls of it and of what is written that are to fail, and whether this is written.
+fn ends(
     alloc: Global,
+    words: &[&str],
     input: &str,
-    read_fails: &[u64],
-    write_fails: &[u64],
-) -> Result<(Status, Vec<u8>), Fail> {
-    let input = source(alloc, input.as_bytes(), read_fails)?;
-    let out = sink(alloc, write_fails)?;
-    performed(alloc, &["replay"], input, out)
+    fails: (&[u64], &[u64]),
+    written: &str,
+) -> Result<(Status, bool), Fail> {
+    let input = source(alloc, input.as_bytes(), fails.0)?;
+    let out = sink(alloc, fails.1)?;
+    let o = outside_with(alloc, no_peer(alloc)?)?;
+    let (status, bytes, _) = performed(alloc, words, input, out, o)?;
+    Ok((status, bytes.as_slice() == written.as_bytes()))
 }
 
-/// A command without input: its status, and what was written.
-fn alone(alloc: Global, words: &[&str]) -> Result<(Status, Vec<u8>), Fail> {
-    let input = source(alloc, b"", &[])?;
-    let out = sink(alloc, &[])?;
-    performed(alloc, words, input, out)
+/// The same of a replay without failures.
+fn replays(alloc: Global, input: &str, written: &str) -> Result<(Status, bool), Fail> {
+    ends(alloc, &["replay"], input, (&[], &[]), written)
+}
+
+/// The same of a command without input.
+fn alone(alloc: Global, words: &[&str], written: &str) -> Result<(Status, bool), Fail> {
+    ends(alloc, words, "", (&[], &[]), written)
 }
 
 /// Two nodes that are formatted.
@@ -121,33 +118,6 @@ const SCHEDULE: &str = concat!(
 /// What is written of it.
 const TRANSCRIPT: &str = "node 1 formatted 1\nnode 2 formatted 1\n";
 
-#[test]
-fn replays_a_schedule(rt: HostRuntime) -> Result<(), Fail> {
-    let (status, written) = replayed(rt.alloc(), SCHEDULE, &[], &[])?;
-    assert_eq!(rt; status, Status::Ok);
-    assert!(rt; written.as_slice() == TRANSCRIPT.as_bytes());
-    Ok(())
-}
-
-/// Later activations of the log use node 2 alone.
-const SET: &str = concat!(
-    "{\"nodes\":[1,2],\"logs\":[{\"id\":1,\"set\":[1],\"r\":1}]}\n",
-    "set 1 1 0 2\n",
-    "activate a 1\n",
-    "append a 6869\n",
-);
-
-/// What is written of it.
-const SET_TRANSCRIPT: &str = "set 1 1 0 2\nactive a 1\nappended a e1n1\nmsg 0 s.a n.2 store e1n1\n";
-
-#[test]
-fn replays_what_is_set(rt: HostRuntime) -> Result<(), Fail> {
-    let (status, written) = replayed(rt.alloc(), SET, &[], &[])?;
-    assert_eq!(rt; status, Status::Ok);
-    assert!(rt; written.as_slice() == SET_TRANSCRIPT.as_bytes());
-    Ok(())
-}
-
 /// The schedule, cut in its third line.
 const CUT: &str = concat!(
     "{\"nodes\":[1,2],\"logs\":[{\"id\":1,\"set\":[1,2],\"r\":1}]}\n",
@@ -156,39 +126,32 @@ const CUT: &str = concat!(
 );
 
 #[test]
+fn replays_a_schedule(rt: HostRuntime) -> Result<(), Fail> {
+    assert_eq!(rt;
+        replays(rt.alloc(), SCHEDULE, TRANSCRIPT)?,
+        (Status::Ok, true)
+    );
+    Ok(())
+}
+
+#[test]
 fn says_where_a_line_is_off(rt: HostRuntime) -> Result<(), Fail> {
-    let (status, written) = replayed(rt.alloc(), "", &[], &[])?;
-    assert_eq!(rt; status, Status::BadSchedule { line: 1, place: 0 });
-    assert_eq!(rt; written.len(), 0);
-    let (status, written) = replayed(rt.alloc(), CUT, &[], &[])?;
-    assert_eq!(rt; status, Status::BadSchedule { line: 3, place: 6 });
-    assert!(rt; written.as_slice() == b"node 1 formatted 1\n".as_slice());
+    let first = Status::BadSchedule { line: 1, place: 0 };
+    assert_eq!(rt; replays(rt.alloc(), "", "")?, (first, true));
+    let third = Status::BadSchedule { line: 3, place: 6 };
+    assert_eq!(rt;
+        replays(rt.alloc(), CUT, "node 1 formatted 1\n")?,
+        (third, true)
+    );
     Ok(())
 }
 
 #[test]
 fn hands_faults_on(rt: HostRuntime) -> Result<(), Fail> {
-    for call in 0..2 {
-        let (status, written) = replayed(rt.alloc(), SCHEDULE, &[call], &[])?;
-        assert_eq!(rt; status, Status::Read);
-        assert!(rt; TRANSCRIPT.as_bytes().starts_with(&written));
-    }
-    for call in 0..2 {
-        let (status, written) = replayed(rt.alloc(), SCHEDULE, &[], &[call])?;
-        assert_eq!(rt; status, Status::Write);
-        assert!(rt; TRANSCRIPT.as_bytes().starts_with(&written));
-    }
-    Ok(())
-}
-
-#[test]
-fn a_sink_without_room_is_a_failed_write(rt: HostRuntime) -> Result<(), Fail> {
-    let alloc = rt.alloc();
-    let input = source(alloc, SCHEDULE.as_bytes(), &[])?;
-    let out = MemSink::new(alloc, 0, Vec::new(alloc))?;
-    let (status, written) = performed(alloc, &["replay"], input, out)?;
-    assert_eq!(rt; status, Status::Write);
-    assert_eq!(rt; written.len(), 0);
+    let reads = ends(rt.alloc(), &["replay"], SCHEDULE, (&[0], &[]), "")?;
+    assert_eq!(rt; reads, (Status::Read, true));
+    let writes = ends(rt.alloc(), &["replay"], SCHEDULE, (&[], &[0]), "")?;
+    assert_eq!(rt; writes, (Status::Write, true));
     Ok(())
 }
 
@@ -196,25 +159,22 @@ fn a_sink_without_room_is_a_failed_write(rt: HostRuntime) -> Result<(), Fail> {
 #[test]
 fn sums_up_a_made_schedule(rt: HostRuntime) -> Result<(), Fail> {
     let words = ["exercise", "--seed", "1", "--events", "1"];
-    let (status, written) = alone(rt.alloc(), &words)?;
-    assert_eq!(rt; status, Status::Ok);
     let line = "events 8 appended 0 acked 0 record 0 trim 0 hole 0 bridge 0 dataloss 0\n";
-    assert!(rt; written.as_slice() == line.as_bytes());
+    assert_eq!(rt; alone(rt.alloc(), &words, line)?, (Status::Ok, true));
     Ok(())
 }
 
 #[test]
 fn refuses_what_is_no_command(rt: HostRuntime) -> Result<(), Fail> {
-    let (status, written) = alone(rt.alloc(), &[])?;
-    assert_eq!(rt; status, Status::Usage);
-    assert_eq!(rt; written.len(), 0);
-    let (status, _) = alone(rt.alloc(), &["replay", "it"])?;
-    assert_eq!(rt; status, Status::Usage);
+    assert_eq!(rt;
+        alone(rt.alloc(), &["replay", "it"], "")?,
+        (Status::Usage, true)
+    );
     Ok(())
 }
 
-/// The words of a node that serves one turn.
-const NODE: [&str; 13] = [
+/// The words of a node that formats a blank store and serves one turn.
+const NODE: [&str; 14] = [
     "node",
     "--id",
     "1",
@@ -228,6 +188,7 @@ const NODE: [&str; 13] = [
     "0",
     "--turns",
     "1",
+    "--format",
 ];
 
 /// A reader asks from `e0n1` on.
@@ -238,36 +199,23 @@ const ASK: &[u8] =
 const ENDED: &[u8] =
     b"\x00\x00\x00\x24\x13\x00\x00\x00\x00\x01\x02\x00\x00\x00\x00\x00\x00\x00\x01\x00\x00\x00\x01\x00\x00\x00\x00\x00\x00\x00\x01\x00\x00\x00\x00\x00\x00\x00\x01\x00";
 
-/// A node on a new store, which serves a turn to a peer that asks: its status, and what the peer was told.
-fn served(alloc: Global, words: &[String]) -> Result<(Status, Vec<u8>), Fail> {
-    let mut input = source(alloc, b"", &[])?;
-    let mut out = sink(alloc, &[])?;
-    let mut o = outside_with(alloc, one_peer(alloc, ASK)?)?;
-    let mut nodes = Framed::new(alloc, no_peer(alloc)?);
-    let status = run(
+/// The status of a node on a new store to which a peer sends that ask, and whether it was answered so.
+fn served(alloc: Global, words: &[&str]) -> Result<(Status, bool), Fail> {
+    let o = outside_with(alloc, one_peer(alloc, ASK)?)?;
+    let (status, _, sent) = performed(
         alloc,
         words,
-        &mut input,
-        &mut out,
-        &mut o.store,
-        &mut o.register,
-        &mut o.link,
-        &mut nodes,
-    );
-    let sent = o.link.sent(0).unwrap_or(b"");
-    Ok((status, Vec::from_slice(alloc, sent)?))
+        source(alloc, b"", &[])?,
+        sink(alloc, &[])?,
+        o,
+    )?;
+    Ok((status, sent.as_slice() == ENDED))
 }
 
 #[test]
 fn a_node_answers_a_peer(rt: HostRuntime) -> Result<(), Fail> {
-    let mut words = strings(rt.alloc(), &NODE)?;
-    let (status, sent) = served(rt.alloc(), &words)?;
-    assert_eq!(rt; status, Status::Blank);
-    assert_eq!(rt; sent.len(), 0);
-    words.push(String::from_str(rt.alloc(), "--format")?)?;
-    let (status, sent) = served(rt.alloc(), &words)?;
-    assert_eq!(rt; status, Status::Ok);
-    assert!(rt; sent.as_slice() == ENDED);
+    assert_eq!(rt; served(rt.alloc(), &NODE[..13])?, (Status::Blank, false));
+    assert_eq!(rt; served(rt.alloc(), &NODE)?, (Status::Ok, true));
     Ok(())
 }
 
@@ -286,72 +234,66 @@ const APPEND: [&str; 11] = [
     "1",
 ];
 
+/// The words of a tail of one round of such a log.
+const TAIL: [&str; 15] = [
+    "tail",
+    "--config",
+    "{\"nodes\":[1],\"logs\":[{\"id\":1,\"set\":[1],\"r\":1}]}",
+    "--log",
+    "1",
+    "--register",
+    "register",
+    "--port",
+    "1",
+    "--rounds",
+    "1",
+    "--from",
+    "e1n1",
+    "--until",
+    "e1n1",
+];
+
 #[test]
-fn an_append_that_reaches_no_node_isnt_done(rt: HostRuntime) -> Result<(), Fail> {
-    let input = source(rt.alloc(), b"6869\n", &[])?;
-    let out = sink(rt.alloc(), &[])?;
-    let (status, told) = performed(rt.alloc(), &APPEND, input, out)?;
-    assert_eq!(rt; status, Status::Link);
-    assert!(rt; told.as_slice() == b"active s 1\nappended s e1n1\n".as_slice());
+fn what_reaches_no_node_isnt_done(rt: HostRuntime) -> Result<(), Fail> {
+    let written = "active s 1\nappended s e1n1\n";
+    let append = ends(rt.alloc(), &APPEND, "6869\n", (&[], &[]), written)?;
+    assert_eq!(rt; append, (Status::Link, true));
+    assert_eq!(rt; alone(rt.alloc(), &TAIL, "")?, (Status::Link, true));
     Ok(())
 }
 
-/// The words of a tail of one round of a log of one node.
-fn tail_words<'a>(from: &'a str, until: &'a str) -> [&'a str; 15] {
-    [
-        "tail",
-        "--config",
-        "{\"nodes\":[1],\"logs\":[{\"id\":1,\"set\":[1],\"r\":1}]}",
-        "--log",
-        "1",
-        "--register",
-        "register",
-        "--port",
-        "1",
-        "--rounds",
-        "1",
-        "--from",
-        from,
-        "--until",
-        until,
-    ]
-}
-
-#[test]
-fn a_tail_that_reaches_no_node_isnt_done(rt: HostRuntime) -> Result<(), Fail> {
-    for range in [("e0n1", "e0n1"), ("e1n1", "e2n0")] {
-        let (status, told) = alone(rt.alloc(), &tail_words(range.0, range.1))?;
-        assert_eq!(rt; status, Status::Link);
-        assert_eq!(rt; told.len(), 0);
-    }
-    Ok(())
-}
-
-/// A tail beside a register on this disk: its status, and what was written.
-fn tailed_beside(alloc: Global, disk: MemDisk) -> Result<(Status, Vec<u8>), Fail> {
+/// The status of a tail beside a register on this disk.
+fn tailed_beside(alloc: Global, disk: MemDisk) -> Result<Status, Fail> {
     let mut o = outside_with(alloc, no_peer(alloc)?)?;
     o.register = DiskRegister::new(alloc, disk);
-    let input = source(alloc, b"", &[])?;
-    let out = sink(alloc, &[])?;
-    performed_with(alloc, &tail_words("e1n1", "e1n1"), input, out, o)
+    let (status, _, _) = performed(alloc, &TAIL, source(alloc, b"", &[])?, sink(alloc, &[])?, o)?;
+    Ok(status)
 }
 
 /// The record of an activation whose factor is 0.
 const OUT_OF_BOUNDS: [u8; 19] = [1, 0, 0, 0, 13, 19, 0, 0, 0, 1, 0, 0, 0, 1, 0, 1, 0, 0, 0];
 
-#[test]
-fn a_tail_ends_beside_a_register_that_cant_be_read(rt: HostRuntime) -> Result<(), Fail> {
-    let mut disk = MemDisk::new(rt.alloc())?;
-    disk.fail_read_at(1);
-    let (status, told) = tailed_beside(rt.alloc(), disk)?;
-    assert_eq!(rt; status, Status::Register);
-    assert_eq!(rt; told.len(), 0);
-    let mut disk = MemDisk::new(rt.alloc())?;
+/// A disk of a register that can't be read, or whose first record is out of bounds.
+fn off_disk(alloc: Global, fails: bool) -> Result<MemDisk, Fail> {
+    let mut disk = MemDisk::new(alloc)?;
+    if fails {
+        disk.fail_read_at(1);
+        return Ok(disk);
+    }
     disk.reserve(19, 1)?;
     disk.write_at(0, &OUT_OF_BOUNDS)?;
-    let (status, told) = tailed_beside(rt.alloc(), disk)?;
+    Ok(disk)
+}
+
+#[test]
+fn a_tail_ends_beside_a_register_that_cant_be_read(rt: HostRuntime) -> Result<(), Fail> {
+    let alloc = rt.alloc();
+    assert_eq!(rt;
+        tailed_beside(alloc, off_disk(alloc, true)?)?,
+        Status::Register
+    );
     let which = Which::Register;
-    assert_eq!(rt; status, Status::Damaged { which, place: 0 });
-    assert_eq!(rt; told.len(), 0);
+    let damaged = Status::Damaged { which, place: 0 };
+    assert_eq!(rt; tailed_beside(alloc, off_disk(alloc, false)?)?, damaged);
     Ok(())
 }

@@ -3,43 +3,47 @@ use ld_batch::{Batch, PushFault, UnpackFault, unpack};
 use std::alloc::Global;
 use std::test::Fail;
 
-/// The batch of a byte and of nothing.
-fn of_two(alloc: Global) -> Result<Batch, PushFault> {
+/// Whether the payload of a byte and of nothing, as two messages, is these bytes.
+fn packs(alloc: Global, bytes: &[u8]) -> Result<bool, PushFault> {
     let mut batch = Batch::new(alloc)?;
     batch.push(&[1])?;
     batch.push(b"")?;
-    Ok(batch)
+    Ok(batch.len() == 2 && batch.payload() == bytes)
 }
 
-/// Where the bytes are off, if they are no batch.
-fn off(alloc: Global, bytes: &[u8]) -> Option<UnpackFault> {
-    unpack(alloc, bytes).err()
+/// Whether the bytes are messages of 7 bytes, and those bytes again.
+fn unpacks(alloc: Global, bytes: &[u8]) -> Result<bool, Fail> {
+    let messages = unpack(alloc, bytes)?;
+    if messages.packed_len() != 7 {
+        return Ok(false);
+    }
+    let payload = messages.payload(alloc)?;
+    Ok(payload.bytes() == bytes)
 }
 
 #[test]
 fn two_messages_are_packed(rt: HostRuntime) -> Result<(), Fail> {
-    let alloc = rt.alloc();
-    let batch = of_two(alloc)?;
-    let bytes = [0, 2, 0, 1, 1, 0, 0];
-    assert_eq!(rt; batch.len(), 2);
-    assert_eq!(rt; batch.payload(), bytes.as_slice());
-    let messages = unpack(alloc, &bytes)?;
-    assert_eq!(rt; messages.packed_len(), 7);
-    assert_eq!(rt; messages.payload(alloc)?.bytes(), bytes.as_slice());
+    assert!(rt; packs(rt.alloc(), &[0, 2, 0, 1, 1, 0, 0])?);
+    assert!(rt; unpacks(rt.alloc(), &[0, 2, 0, 1, 1, 0, 0])?);
     Ok(())
+}
+
+/// Where the bytes are off, 100 where they are a batch.
+fn off(alloc: Global, bytes: &[u8]) -> usize {
+    match unpack(alloc, bytes) {
+        Err(UnpackFault::BadBatch(place)) => place,
+        _ => 100,
+    }
 }
 
 #[test]
 fn what_is_no_batch_is_refused(rt: HostRuntime) -> Result<(), Fail> {
     let alloc = rt.alloc();
-    assert_eq!(rt; off(alloc, &[0, 0]), Some(UnpackFault::BadBatch(0)));
-    assert_eq!(rt;
+    let off = [
+        off(alloc, &[0, 0]),
         off(alloc, &[0, 1, 0, 2, 0xaa]),
-        Some(UnpackFault::BadBatch(2))
-    );
-    assert_eq!(rt;
         off(alloc, &[0, 1, 0, 0, 0]),
-        Some(UnpackFault::BadBatch(4))
-    );
+    ];
+    assert_eq!(rt; off, [0, 2, 4]);
     Ok(())
 }

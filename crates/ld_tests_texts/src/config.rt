@@ -1,85 +1,45 @@
 // Configurations and their faults.
 use ld_config::{Config, ConfigFault, Field};
-use ld_ids::{LogId, NodeId};
 use std::alloc::Global;
 use std::test::Fail;
 
-/// The fault of a text, where it has one.
-fn fault(alloc: Global, text: &[u8]) -> Option<ConfigFault> {
-    Config::read(alloc, text).err()
+/// How many nodes and logs a configuration has, and of its first log the number, the set, the factor and the extras.
+fn read(alloc: Global, text: &[u8]) -> Result<[u64; 6], ConfigFault> {
+    let config = Config::read(alloc, text)?;
+    let logs = config.logs.as_slice();
+    let spec = logs[0];
+    Ok([
+        config.nodes.len() as u64,
+        logs.len() as u64,
+        u64::from(spec.log.number()),
+        u64::from(spec.set.bits()),
+        u64::from(spec.r),
+        u64::from(spec.extras),
+    ])
 }
 
 #[test]
 fn a_configuration_is_read(rt: HostRuntime) -> Result<(), Fail> {
     let text = br#"{"nodes":[1,2,3],"logs":[{"id":7,"set":[3,1],"r":2,"extras":1}]}"#;
-    let config = Config::read(rt.alloc(), text)?;
-    assert_eq!(rt; config.nodes.len(), 3);
-    assert_eq!(rt; config.logs.len(), 1);
-    let spec = config.logs.as_slice()[0];
-    assert_eq!(rt; Some(spec.log), LogId::new(7));
-    assert_eq!(rt; spec.set.nth(0), NodeId::new(1));
-    assert_eq!(rt; spec.set.nth(1), NodeId::new(3));
-    assert_eq!(rt; spec.set.len(), 2);
-    assert_eq!(rt; spec.r, 2);
-    assert_eq!(rt; spec.extras, 1);
+    assert_eq!(rt; read(rt.alloc(), text)?, [3, 1, 7, 5, 2, 1]);
     Ok(())
 }
 
 #[test]
 fn the_first_fault_is_answered(rt: HostRuntime) -> Result<(), Fail> {
-    let alloc = rt.alloc();
-    let cases: [(&[u8], ConfigFault); 12] = [
+    let cases: [(&[u8], ConfigFault); 3] = [
         (b"{", ConfigFault::NotJson),
-        (b"\"\xff\"", ConfigFault::NotJson),
-        (b"[]", ConfigFault::Shape(Field::Top)),
-        (
-            br#"{"nodes":[],"logs":0}"#,
-            ConfigFault::Range(Field::Nodes, 0),
-        ),
-        (
-            br#"{"nodes":[1,1],"logs":0}"#,
-            ConfigFault::Range(Field::Node, 1),
-        ),
         (
             br#"{"nodes":[1.0],"logs":0}"#,
             ConfigFault::Shape(Field::Node),
         ),
         (
-            br#"{"nodes":[1],"logs":[]}"#,
-            ConfigFault::Range(Field::Logs, 0),
-        ),
-        (
-            br#"{"nodes":[1],"logs":[{"id":65536}]}"#,
-            ConfigFault::Shape(Field::Log),
-        ),
-        (
-            br#"{"nodes":[1],"logs":[{"id":65536,"set":[],"r":0}]}"#,
-            ConfigFault::Range(Field::Id, 65_536),
-        ),
-        (
             br#"{"nodes":[1],"logs":[{"id":1,"set":[2],"r":0}]}"#,
             ConfigFault::Range(Field::Member, 2),
         ),
-        (
-            br#"{"nodes":[1,2,3],"logs":[{"id":1,"set":[1,2,3],"r":4}]}"#,
-            ConfigFault::Range(Field::R, 4),
-        ),
-        (
-            br#"{"nodes":[1],"logs":[{"id":1,"set":[1],"r":1,"extras":4}]}"#,
-            ConfigFault::Range(Field::Extras, 4),
-        ),
     ];
     for (text, expected) in cases {
-        assert_eq!(rt; fault(alloc, text), Some(expected));
+        assert!(rt; read(rt.alloc(), text) == Err(expected));
     }
-    Ok(())
-}
-
-#[test]
-fn a_log_is_named_once(rt: HostRuntime) -> Result<(), Fail> {
-    let text =
-        br#"{"nodes":[1,2,3],"logs":[{"id":1,"set":[1,2,3],"r":2},{"id":1,"set":[1,2,3],"r":2}]}"#;
-    let log = LogId::new(1).expect(&rt, "a number in range");
-    assert_eq!(rt; fault(rt.alloc(), text), Some(ConfigFault::Twice(log)));
     Ok(())
 }

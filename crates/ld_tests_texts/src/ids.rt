@@ -1,5 +1,6 @@
 // Nodes, sets, names and payloads.
-use ld_ids::{LogId, Name, NodeId, NodeSet, Payload};
+use ld_ids::{LogId, Name, NoMemory, NodeId, NodeSet, Payload};
+use std::alloc::Global;
 use std::test::Fail;
 
 /// The set of the nodes that there are among these numbers.
@@ -13,46 +14,71 @@ fn set_of(numbers: &[u8]) -> NodeSet {
     set
 }
 
+/// Whether there is a node of this number.
+fn is_node(number: u8) -> bool {
+    NodeId::new(number).is_some()
+}
+
+/// Whether there is a log of this number.
+fn is_log(number: u32) -> bool {
+    LogId::new(number).is_some()
+}
+
 #[test]
 fn numbers_are_bounded(rt: HostRuntime) -> Result<(), Fail> {
-    assert_eq!(rt; NodeId::new(0), None);
-    assert!(rt; NodeId::new(16).is_some());
-    assert_eq!(rt; NodeId::new(17), None);
-    assert_eq!(rt; LogId::new(0), None);
-    assert!(rt; LogId::new(65_535).is_some());
-    assert_eq!(rt; LogId::new(65_536), None);
+    assert_eq!(rt;
+        [is_node(0), is_node(16), is_node(17)],
+        [false, true, false]
+    );
+    assert_eq!(rt;
+        [is_log(0), is_log(65_535), is_log(65_536)],
+        [false, true, false]
+    );
     Ok(())
+}
+
+/// The number of the set's node at this place, 0 behind the last one.
+fn nth(set: &NodeSet, place: usize) -> u8 {
+    set.nth(place).map_or(0, |node| node.number())
 }
 
 #[test]
 fn nodes_stand_in_rising_order(rt: HostRuntime) -> Result<(), Fail> {
     let set = set_of(&[5, 16, 1, 5]);
+    assert_eq!(rt;
+        [nth(&set, 0), nth(&set, 1), nth(&set, 2), nth(&set, 3)],
+        [1, 5, 16, 0]
+    );
     assert_eq!(rt; set.len(), 3);
-    assert_eq!(rt; set.nth(0), NodeId::new(1));
-    assert_eq!(rt; set.nth(1), NodeId::new(5));
-    assert_eq!(rt; set.nth(2), NodeId::new(16));
-    assert_eq!(rt; set.nth(3), None);
-    assert!(rt; set.meets(&set_of(&[2, 16])));
-    assert!(rt; !set.meets(&set_of(&[2, 3, 4])));
+    let meets = [set.meets(&set_of(&[2, 16])), set.meets(&set_of(&[2, 3, 4]))];
+    assert_eq!(rt; meets, [true, false]);
     Ok(())
 }
 
 #[test]
 fn sets_are_numbers(rt: HostRuntime) -> Result<(), Fail> {
-    assert_eq!(rt; NodeSet::empty().bits(), 0);
-    assert_eq!(rt; set_of(&[1, 3, 16]).bits(), 0x8005);
-    assert_eq!(rt; NodeSet::from_bits(0x8005), set_of(&[1, 3, 16]));
-    assert_eq!(rt; NodeSet::from_bits(0xffff).bits(), 0xffff);
+    let bits = [NodeSet::empty().bits(), set_of(&[1, 3, 16]).bits()];
+    assert_eq!(rt; bits, [0, 0x8005]);
+    let again = [
+        NodeSet::from_bits(0x8005).bits(),
+        NodeSet::from_bits(0xffff).bits(),
+    ];
+    assert_eq!(rt; again, [0x8005, 0xffff]);
     Ok(())
+}
+
+/// Whether a copied name and a copied payload are what they copy.
+fn copies(alloc: Global) -> Result<[bool; 2], NoMemory> {
+    let name = Name::new(Vec::from_slice(alloc, b"seq1")?);
+    let payload = Payload::new(Vec::from_slice(alloc, &[0, 255])?);
+    Ok([
+        name.copy(alloc)?.bytes() == b"seq1".as_slice(),
+        payload.copy(alloc)?.bytes() == [0, 255].as_slice(),
+    ])
 }
 
 #[test]
 fn a_copy_is_the_same(rt: HostRuntime) -> Result<(), Fail> {
-    let alloc = rt.alloc();
-    let name = Name::new(Vec::from_slice(alloc, b"seq1")?);
-    assert_eq!(rt; name.copy(alloc)?, name);
-    let payload = Payload::new(Vec::from_slice(alloc, &[0, 255])?);
-    assert_eq!(rt; payload.copy(alloc)?, payload);
-    assert_eq!(rt; payload.len(), 2);
+    assert_eq!(rt; copies(rt.alloc())?, [true, true]);
     Ok(())
 }

@@ -1,6 +1,6 @@
 // Sequencers of a log that stores on two of three nodes, 1, 2 and 3 at first, over a register on a disk in memory.
 use crate::sequencer::steps::{Run, Step, play, run_on, unread};
-use ld_ids::LogId;
+use ld_ids::{LogId, NoMemory};
 use ld_lsn::Lsn;
 use ld_msg::{Body, Msg, Outbox, Who};
 use ld_register::{Register, RegisterFault};
@@ -61,11 +61,6 @@ fn shows_loss(alloc: Global, run: &mut Run, loss: bool) -> bool {
     }
 }
 
-// Whether so many messages more than these were sent.
-fn sends(run: &Run, sent: usize, more: usize) -> bool {
-    run.out.len() == sent.saturating_add(more)
-}
-
 // Whether a message asks the node for what it has.
 fn is_ask_of(msg: &Msg, number: u8) -> bool {
     match (&msg.body, msg.to) {
@@ -95,183 +90,244 @@ fn are_asked(out: &Outbox, numbers: [u8; 3]) -> bool {
     true
 }
 
+// What some steps come to, or why they stop, and how many messages they send.
+type Played = (Result<Report, SequencerFault>, usize);
+
+// What these steps come to.
+fn plays(alloc: Global, run: &mut Run, steps: &[Step]) -> Played {
+    let sent = run.out.len();
+    let report = play(alloc, run, steps);
+    (report, run.out.len().saturating_sub(sent))
+}
+
+// What some steps and then others come to, of the last one of these sequencers.
+fn played(
+    alloc: Global,
+    others: &[[u8; 3]],
+    first: &[Step],
+    second: &[Step],
+) -> Result<[Played; 2], NoMemory> {
+    let mut run = run_on(alloc, [1, 2, 3], others)?;
+    let before = plays(alloc, &mut run, first);
+    Ok([before, plays(alloc, &mut run, second)])
+}
+
+// The same of the second sequencer on the same nodes, behind steps that come to nothing: what the last ones come to.
+fn next_played(alloc: Global, first: &[Step], second: &[Step]) -> Result<Played, NoMemory> {
+    let [(before, _), last] = played(alloc, &[[1, 2, 3]], first, second)?;
+    match before {
+        Ok(report) if report == Report::nothing() => Ok(last),
+        _ => Err(NoMemory),
+    }
+}
+
 #[test]
 fn an_append_is_released_at_the_second_node(rt: HostRuntime) -> Result<(), Fail> {
-    let alloc = rt.alloc();
-    let mut run = run_on(alloc, [1, 2, 3], &[])?;
-    assert!(rt; run.sequencer.epoch() == 1);
-    assert!(rt; run.sequencer.settled());
-    let one = play(alloc, &mut run, &[Step::Appends, Step::Stores(1)]);
-    assert!(rt; one == Ok(Report::nothing()));
-    assert!(rt; !run.sequencer.settled());
     let number = Lsn::new(1, 1);
     let mut acked = released(number);
     acked.acked = Some(number);
-    assert!(rt; play(alloc, &mut run, &[Step::Stores(2)]) == Ok(acked));
-    assert!(rt; run.sequencer.settled());
+    let first = [Step::Appends, Step::Stores(1)];
     // two stores, and three times the word that it is released
-    assert!(rt; run.out.len() == 5);
+    let wanted = [(Ok(Report::nothing()), 2), (Ok(acked), 3)];
+    assert!(rt; played(rt.alloc(), &[], &first, &[Step::Stores(2)])? == wanted);
+    Ok(())
+}
+
+// The first sequencer's epoch, and whether it is settled at first, with an append that one node stored, and with one that two did.
+fn settles(alloc: Global) -> Result<(u32, [bool; 3]), NoMemory> {
+    let mut run = run_on(alloc, [1, 2, 3], &[])?;
+    let first = run.sequencer.settled();
+    let _ = play(alloc, &mut run, &[Step::Appends, Step::Stores(1)]);
+    let second = run.sequencer.settled();
+    let _ = play(alloc, &mut run, &[Step::Stores(2)]);
+    Ok((
+        run.sequencer.epoch(),
+        [first, second, run.sequencer.settled()],
+    ))
+}
+
+#[test]
+fn it_is_settled_where_nothing_waits(rt: HostRuntime) -> Result<(), Fail> {
+    assert_eq!(rt; settles(rt.alloc())?, (1, [true, false, true]));
     Ok(())
 }
 
 #[test]
 fn the_next_sequencer_closes_the_epoch(rt: HostRuntime) -> Result<(), Fail> {
-    let alloc = rt.alloc();
-    let mut run = run_on(alloc, [1, 2, 3], &[[1, 2, 3]])?;
-    assert!(rt; play(alloc, &mut run, &NEARLY_CLOSED) == Ok(Report::nothing()));
-    assert!(rt; run.sequencer.released() == Lsn::new(1, 0));
-    assert!(rt; !run.sequencer.settled());
-    let sent = run.out.len();
-    let report = play(alloc, &mut run, &[Step::Stores(1)]);
-    assert!(rt; report == Ok(closed_at(Lsn::new(1, 1), Lsn::new(2, 0))));
+    let last = next_played(rt.alloc(), &NEARLY_CLOSED, &[Step::Stores(1)])?;
     // all three nodes of each epoch hear that it is closed, and what is released
-    assert!(rt; sends(&run, sent, 6));
-    assert!(rt; shows_loss(alloc, &mut run, false));
+    assert!(rt; last == (Ok(closed_at(Lsn::new(1, 1), Lsn::new(2, 0))), 6));
+    Ok(())
+}
+
+// Whether the register shows that the second sequencer closed epoch 1 by these steps, and that something of it is lost or not.
+fn closes_with(
+    alloc: Global,
+    first: &[Step],
+    second: &[Step],
+    loss: bool,
+) -> Result<bool, NoMemory> {
+    let mut run = run_on(alloc, [1, 2, 3], &[[1, 2, 3]])?;
+    let _ = play(alloc, &mut run, first);
+    let _ = play(alloc, &mut run, second);
+    Ok(shows_loss(alloc, &mut run, loss))
+}
+
+#[test]
+fn the_register_shows_what_is_closed(rt: HostRuntime) -> Result<(), Fail> {
+    let alloc = rt.alloc();
+    assert!(rt; closes_with(alloc, &NEARLY_CLOSED, &[Step::Stores(1)], false)?);
+    assert!(rt;
+        closes_with(
+            alloc,
+            &NEARLY_SPENT,
+            &[Step::Loses(3), Step::Stores(1)],
+            true
+        )?
+    );
     Ok(())
 }
 
 #[test]
 fn a_failed_close_is_tried_again_by_a_retry(rt: HostRuntime) -> Result<(), Fail> {
     let alloc = rt.alloc();
-    let mut run = run_on(alloc, [1, 2, 3], &[[1, 2, 3]])?;
-    assert!(rt; play(alloc, &mut run, &NEARLY_CLOSED) == Ok(Report::nothing()));
     let mut failed = Report::nothing();
     failed.register = Some(CloseFault::Failed);
-    assert!(rt; play(alloc, &mut run, &[Step::Fails, Step::Stores(1)]) == Ok(failed));
-    let retried = play(alloc, &mut run, &[Step::Retries]);
-    assert!(rt; retried == Ok(closed_at(Lsn::new(1, 1), Lsn::new(2, 0))));
+    let fails = [Step::Fails, Step::Stores(1)];
+    assert!(rt; next_played(alloc, &NEARLY_CLOSED, &fails)?.0 == Ok(failed));
+    let retries = [Step::Fails, Step::Stores(1), Step::Retries];
+    let retried = next_played(alloc, &NEARLY_CLOSED, &retries)?;
+    assert!(rt; retried.0 == Ok(closed_at(Lsn::new(1, 1), Lsn::new(2, 0))));
     Ok(())
 }
 
 #[test]
 fn an_epochs_nodes_recover_it(rt: HostRuntime) -> Result<(), Fail> {
     let alloc = rt.alloc();
-    let mut run = run_on(alloc, [1, 2, 3], &[[4, 5, 6]])?;
-    // the nodes of epoch 1 are asked, and not those of epoch 2
-    assert!(rt; run.out.len() == 3);
-    assert!(rt; are_asked(&run.out, [1, 2, 3]));
-    assert!(rt; play(alloc, &mut run, &NEARLY_CLOSED) == Ok(Report::nothing()));
-    let sent = run.out.len();
     // a node of epoch 2 alone counts for nothing
-    assert!(rt; play(alloc, &mut run, &[Step::Stores(4)]) == Ok(Report::nothing()));
-    assert!(rt; run.out.len() == sent);
-    let report = play(alloc, &mut run, &[Step::Stores(1)]);
-    assert!(rt; report == Ok(closed_at(Lsn::new(1, 1), Lsn::new(2, 0))));
-    assert!(rt; sends(&run, sent, 6));
+    let strange = [
+        Step::HasNothing(1),
+        Step::HasNothing(2),
+        Step::Stores(3),
+        Step::Stores(4),
+    ];
+    let [(before, _), last] = played(alloc, &[[4, 5, 6]], &strange, &[Step::Stores(1)])?;
+    assert!(rt; before == Ok(Report::nothing()));
+    assert!(rt; last == (Ok(closed_at(Lsn::new(1, 1), Lsn::new(2, 0))), 6));
     Ok(())
+}
+
+// How many messages the last one of these sequencers, each with its nodes, has sent once it heard that epoch 1 is closed, and whether these nodes were asked.
+fn asked_behind(
+    alloc: Global,
+    others: &[[u8; 3]],
+    asked: [u8; 3],
+) -> Result<(usize, bool), NoMemory> {
+    let mut run = run_on(alloc, [1, 2, 3], others)?;
+    run.out.truncate(0);
+    let _ = play(alloc, &mut run, &[Step::Closed]);
+    Ok((run.out.len(), are_asked(&run.out, asked)))
 }
 
 #[test]
 fn the_next_epoch_is_recovered_on_its_own_nodes(rt: HostRuntime) -> Result<(), Fail> {
-    let alloc = rt.alloc();
-    let mut run = run_on(alloc, [1, 2, 3], &[[2, 4, 6], [1, 3, 5]])?;
-    run.out.truncate(0);
-    let report = play(alloc, &mut run, &[Step::Closed]);
-    assert!(rt; report == Ok(released(Lsn::epoch_end(1))));
     // the nodes of epoch 1 hear that it is closed, those of epoch 3 what is released, and those of epoch 2 are asked
-    assert!(rt; run.out.len() == 9);
-    assert!(rt; are_asked(&run.out, [2, 4, 6]));
+    let told = asked_behind(rt.alloc(), &[[2, 4, 6], [1, 3, 5]], [2, 4, 6])?;
+    assert_eq!(rt; told, (9, true));
     Ok(())
+}
+
+// How many messages the second sequencer begins with, and whether the nodes of epoch 1 are asked by them.
+fn begins_with(alloc: Global) -> Result<(usize, bool), NoMemory> {
+    let run = run_on(alloc, [1, 2, 3], &[[4, 5, 6]])?;
+    Ok((run.out.len(), are_asked(&run.out, [1, 2, 3])))
+}
+
+#[test]
+fn an_epochs_nodes_are_asked(rt: HostRuntime) -> Result<(), Fail> {
+    assert_eq!(rt; begins_with(rt.alloc())?, (3, true));
+    Ok(())
+}
+
+// What the third sequencer comes to where it hears that epoch 1 is closed and the look behind it fails, and where it hears that once more.
+fn looks_twice(alloc: Global) -> Result<[Played; 2], NoMemory> {
+    let run = run_on(alloc, [1, 2, 3], &[[1, 2, 3], [1, 2, 3]])?;
+    let mut run = unread(alloc, run);
+    let failed = plays(alloc, &mut run, &[Step::Closed]);
+    Ok([failed, plays(alloc, &mut run, &[Step::Closed])])
 }
 
 #[test]
 fn a_failed_look_has_done_nothing(rt: HostRuntime) -> Result<(), Fail> {
-    let alloc = rt.alloc();
-    let run = run_on(alloc, [1, 2, 3], &[[1, 2, 3], [1, 2, 3]])?;
-    let mut run = unread(alloc, run);
-    let before = run.sequencer.released();
-    let sent = run.out.len();
-    let failed = play(alloc, &mut run, &[Step::Closed]);
-    assert!(rt; failed == Err(SequencerFault::Register(RegisterFault::Failed)));
-    assert!(rt; run.out.len() == sent);
-    assert!(rt; run.sequencer.released() == before);
-    let report = play(alloc, &mut run, &[Step::Closed]);
-    assert!(rt; report == Ok(released(Lsn::epoch_end(1))));
-    assert!(rt; sends(&run, sent, 9));
+    let failed = Err(SequencerFault::Register(RegisterFault::Failed));
+    let wanted = [(failed, 0), (Ok(released(Lsn::epoch_end(1))), 9)];
+    assert!(rt; looks_twice(rt.alloc())? == wanted);
     Ok(())
 }
 
 #[test]
 fn a_spent_digest_says_what_is_lost(rt: HostRuntime) -> Result<(), Fail> {
     let alloc = rt.alloc();
-    let mut run = run_on(alloc, [1, 2, 3], &[[1, 2, 3]])?;
-    assert!(rt; play(alloc, &mut run, &NEARLY_SPENT) == Ok(Report::nothing()));
-    let sent = run.out.len();
-    assert!(rt; play(alloc, &mut run, &[Step::Loses(3)]) == Ok(Report::nothing()));
     // the epoch's end goes to the one node that isn't lost, which closes it
-    assert!(rt; sends(&run, sent, 1));
-    let report = play(alloc, &mut run, &[Step::Stores(1)]);
-    assert!(rt; report == Ok(closed_at(Lsn::new(1, 1), Lsn::new(2, 0))));
-    assert!(rt; shows_loss(alloc, &mut run, true));
+    let spent = next_played(alloc, &NEARLY_SPENT, &[Step::Loses(3)])?;
+    assert!(rt; spent == (Ok(Report::nothing()), 1));
+    let closed = next_played(alloc, &NEARLY_SPENT, &[Step::Loses(3), Step::Stores(1)])?;
+    assert!(rt; closed.0 == Ok(closed_at(Lsn::new(1, 1), Lsn::new(2, 0))));
     Ok(())
 }
 
 #[test]
 fn a_spent_digest_is_preempted_by_a_greater_epoch(rt: HostRuntime) -> Result<(), Fail> {
-    let alloc = rt.alloc();
-    let mut run = run_on(alloc, [1, 2, 3], &[[1, 2, 3]])?;
-    assert!(rt; play(alloc, &mut run, &NEARLY_SPENT) == Ok(Report::nothing()));
-    let sent = run.out.len();
-    assert!(rt; play(alloc, &mut run, &[Step::Next, Step::Loses(3)]) == Ok(preempted()));
-    assert!(rt; run.out.len() == sent);
+    let last = next_played(rt.alloc(), &NEARLY_SPENT, &[Step::Next, Step::Loses(3)])?;
+    assert!(rt; last == (Ok(preempted()), 0));
     Ok(())
 }
 
 #[test]
 fn a_spent_digest_of_a_closed_epoch_is_passed(rt: HostRuntime) -> Result<(), Fail> {
-    let alloc = rt.alloc();
-    let mut run = run_on(alloc, [1, 2, 3], &[[1, 2, 3]])?;
-    assert!(rt; play(alloc, &mut run, &NEARLY_SPENT) == Ok(Report::nothing()));
-    let sent = run.out.len();
-    let report = play(alloc, &mut run, &[Step::Closes, Step::Loses(3)]);
-    assert!(rt; report == Ok(released(Lsn::new(2, 0))));
-    assert!(rt; sends(&run, sent, 6));
+    let last = next_played(rt.alloc(), &NEARLY_SPENT, &[Step::Closes, Step::Loses(3)])?;
+    assert!(rt; last == (Ok(released(Lsn::new(2, 0))), 6));
     Ok(())
 }
 
 #[test]
 fn a_short_close_is_overtaken(rt: HostRuntime) -> Result<(), Fail> {
-    let alloc = rt.alloc();
-    let mut run = run_on(alloc, [1, 2, 3], &[[1, 2, 3]])?;
-    assert!(rt; play(alloc, &mut run, &NEARLY_SPENT) == Ok(Report::nothing()));
-    let report = play(
-        alloc,
-        &mut run,
-        &[Step::Loses(3), Step::Next, Step::Stores(1)],
-    );
-    assert!(rt; report == Ok(preempted()));
+    let steps = [Step::Loses(3), Step::Next, Step::Stores(1)];
+    assert!(rt; next_played(rt.alloc(), &NEARLY_SPENT, &steps)?.0 == Ok(preempted()));
     Ok(())
+}
+
+// What a sequencer comes to whose digest is spent and whose look then fails, at a retry, and where the epoch's end is stored.
+fn looks_again(alloc: Global) -> Result<[Played; 3], NoMemory> {
+    let mut run = run_on(alloc, [1, 2, 3], &[[1, 2, 3]])?;
+    let _ = play(alloc, &mut run, &NEARLY_SPENT);
+    let mut run = unread(alloc, run);
+    let failed = plays(alloc, &mut run, &[Step::Loses(3)]);
+    let retried = plays(alloc, &mut run, &[Step::Retries]);
+    Ok([failed, retried, plays(alloc, &mut run, &[Step::Stores(1)])])
 }
 
 #[test]
 fn a_retry_looks_again(rt: HostRuntime) -> Result<(), Fail> {
-    let alloc = rt.alloc();
-    let mut run = run_on(alloc, [1, 2, 3], &[[1, 2, 3]])?;
-    assert!(rt; play(alloc, &mut run, &NEARLY_SPENT) == Ok(Report::nothing()));
-    let mut run = unread(alloc, run);
-    let sent = run.out.len();
-    let failed = play(alloc, &mut run, &[Step::Loses(3)]);
-    assert!(rt; failed == Err(SequencerFault::Register(RegisterFault::Failed)));
-    assert!(rt; run.out.len() == sent);
-    assert!(rt; play(alloc, &mut run, &[Step::Retries]) == Ok(Report::nothing()));
-    assert!(rt; sends(&run, sent, 1));
-    let report = play(alloc, &mut run, &[Step::Stores(1)]);
-    assert!(rt; report == Ok(closed_at(Lsn::new(1, 1), Lsn::new(2, 0))));
+    let [failed, retried, closed] = looks_again(rt.alloc())?;
+    assert!(rt; failed == (Err(SequencerFault::Register(RegisterFault::Failed)), 0));
+    assert!(rt; retried == (Ok(Report::nothing()), 1));
+    assert!(rt; closed.0 == Ok(closed_at(Lsn::new(1, 1), Lsn::new(2, 0))));
     Ok(())
 }
 
-// All up to a place of epoch 1 may go.
-fn trims(run: &mut Run, esn: u32) -> Result<(), SequencerFault> {
-    run.sequencer.trim(Lsn::new(1, esn), &mut run.out)
+// Whether all up to a place of epoch 1 that isn't released may go, and up to the one that is; and how many messages that is.
+fn trims(alloc: Global) -> Result<([Result<(), SequencerFault>; 2], usize), NoMemory> {
+    let mut run = run_on(alloc, [1, 2, 3], &[])?;
+    let past = run.sequencer.trim(Lsn::new(1, 1), &mut run.out);
+    let fine = run.sequencer.trim(Lsn::new(1, 0), &mut run.out);
+    Ok(([past, fine], run.out.len()))
 }
 
 #[test]
 fn a_trim_goes_up_to_what_is_released(rt: HostRuntime) -> Result<(), Fail> {
-    let alloc = rt.alloc();
-    let mut run = run_on(alloc, [1, 2, 3], &[])?;
-    assert!(rt; trims(&mut run, 1) == Err(SequencerFault::PastReleased(Lsn::new(1, 0))));
-    assert!(rt; trims(&mut run, 0) == Ok(()));
+    let past = Err(SequencerFault::PastReleased(Lsn::new(1, 0)));
     // all nodes hear it
-    assert!(rt; run.out.len() == 6);
+    assert!(rt; trims(rt.alloc())? == ([past, Ok(())], 6));
     Ok(())
 }

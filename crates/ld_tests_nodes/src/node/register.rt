@@ -89,79 +89,99 @@ fn close<R: Register>(alloc: Global, reg: &mut R, end: u32) -> Result<(), Regist
     Ok(())
 }
 
-#[test]
-fn a_tick_cleans_what_is_closed(rt: HostRuntime) -> Result<(), Fail> {
-    let alloc = rt.alloc();
+/// Which epoch a tick of log 1 cleans before it is closed, and after.
+fn cleans(alloc: Global) -> Result<[u32; 2], NodeFault> {
     let mut reg = new_register(alloc)?;
     let mut node = formatted(alloc)?;
-    assert_eq!(rt; cleaned(alloc, &mut node, 1, &mut reg), Ok(0));
+    let before = cleaned(alloc, &mut node, 1, &mut reg)?;
     close(alloc, &mut reg, 2)?;
-    assert_eq!(rt; cleaned(alloc, &mut node, 1, &mut reg), Ok(1));
+    Ok([before, cleaned(alloc, &mut node, 1, &mut reg)?])
+}
+
+#[test]
+fn a_tick_cleans_what_is_closed(rt: HostRuntime) -> Result<(), Fail> {
+    assert_eq!(rt; cleans(rt.alloc())?, [0, 1]);
     Ok(())
+}
+
+/// What a tick of log 2, which isn't known, and one of log 1 do where the register's next call fails.
+fn looks(alloc: Global) -> Result<[Result<u32, NodeFault>; 2], NodeFault> {
+    let mut node = formatted(alloc)?;
+    let mut reg = new_register(alloc)?;
+    reg.arm(Fault::FailAt(1));
+    let first = cleaned(alloc, &mut node, 2, &mut reg);
+    Ok([first, cleaned(alloc, &mut node, 1, &mut reg)])
 }
 
 #[test]
 fn a_tick_looks_only_for_known_logs(rt: HostRuntime) -> Result<(), Fail> {
-    let alloc = rt.alloc();
-    let mut node = formatted(alloc)?;
-    let mut reg = new_register(alloc)?;
-    reg.arm(Fault::FailAt(1));
-    assert_eq!(rt; cleaned(alloc, &mut node, 2, &mut reg), Ok(0));
-    assert_eq!(rt;
-        cleaned(alloc, &mut node, 1, &mut reg),
-        Err(NodeFault::Register(RegisterFault::Failed))
-    );
+    let failed = NodeFault::Register(RegisterFault::Failed);
+    assert_eq!(rt; looks(rt.alloc())?, [Ok(0), Err(failed)]);
     Ok(())
+}
+
+/// How many nodes a lost node asks once it has cleaned an epoch with a record in it.
+fn asks(alloc: Global) -> Result<usize, NodeFault> {
+    let mut reg = new_register(alloc)?;
+    close(alloc, &mut reg, 2)?;
+    let mut node = formatted_by(alloc, &mut reg)?;
+    let _ = cleaned(alloc, &mut node, 1, &mut reg)?;
+    asked(alloc, &mut node, &mut reg)
 }
 
 #[test]
 fn a_lost_node_asks_all_others(rt: HostRuntime) -> Result<(), Fail> {
-    let alloc = rt.alloc();
-    let mut reg = new_register(alloc)?;
-    close(alloc, &mut reg, 2)?;
-    let mut node = formatted_by(alloc, &mut reg)?;
-    assert_eq!(rt; cleaned(alloc, &mut node, 1, &mut reg), Ok(1));
-    assert_eq!(rt; asked(alloc, &mut node, &mut reg), Ok(2));
+    assert_eq!(rt; asks(rt.alloc())?, 2);
     Ok(())
+}
+
+/// In how many epochs a lost node takes a place before it is rebuilt, after that, and once more; and whether it was rebuilt.
+fn takes_places(alloc: Global) -> Result<([u32; 3], bool), NodeFault> {
+    let mut reg = new_register(alloc)?;
+    close(alloc, &mut reg, 1)?;
+    let mut node = formatted_by(alloc, &mut reg)?;
+    let _ = cleaned(alloc, &mut node, 1, &mut reg)?;
+    let before = replaced(alloc, &node, &mut reg)?;
+    let is = rebuilt(alloc, &mut node, &mut reg)?;
+    let after = replaced(alloc, &node, &mut reg)?;
+    Ok(([before, after, replaced(alloc, &node, &mut reg)?], is))
 }
 
 #[test]
 fn a_node_takes_a_place_once_it_is_rebuilt(rt: HostRuntime) -> Result<(), Fail> {
-    let alloc = rt.alloc();
-    let mut reg = new_register(alloc)?;
-    close(alloc, &mut reg, 1)?;
-    let mut node = formatted_by(alloc, &mut reg)?;
-    assert_eq!(rt; cleaned(alloc, &mut node, 1, &mut reg), Ok(1));
-    assert_eq!(rt; replaced(alloc, &node, &mut reg), Ok(0));
-    assert_eq!(rt; rebuilt(alloc, &mut node, &mut reg), Ok(true));
-    assert_eq!(rt; replaced(alloc, &node, &mut reg), Ok(1));
-    assert_eq!(rt; replaced(alloc, &node, &mut reg), Ok(0));
+    assert_eq!(rt; takes_places(rt.alloc())?, ([0, 1, 0], true));
     Ok(())
+}
+
+/// Why a node whose disk fails takes no record, why it takes none afterwards, and why it doesn't tick.
+fn refused(alloc: Global) -> Result<[Option<NodeFault>; 3], NodeFault> {
+    let mut reg = new_register(alloc)?;
+    let mut node = formatted(alloc)?;
+    node.arm(Fault::FailAt(2));
+    let first = give_store(alloc, &mut node).err();
+    let second = give_store(alloc, &mut node).err();
+    Ok([first, second, cleaned(alloc, &mut node, 1, &mut reg).err()])
 }
 
 #[test]
 fn a_node_whose_disk_failed_has_to_be_loaded_again(rt: HostRuntime) -> Result<(), Fail> {
-    let alloc = rt.alloc();
-    let mut reg = new_register(alloc)?;
-    let mut node = formatted(alloc)?;
-    node.arm(Fault::FailAt(2));
-    assert_eq!(rt; give_store(alloc, &mut node), Err(NodeFault::Disk));
-    assert_eq!(rt; give_store(alloc, &mut node), Err(NodeFault::NeedsLoad));
-    assert_eq!(rt;
-        cleaned(alloc, &mut node, 1, &mut reg),
-        Err(NodeFault::NeedsLoad)
-    );
+    let again = Some(NodeFault::NeedsLoad);
+    assert_eq!(rt; refused(rt.alloc())?, [Some(NodeFault::Disk), again, again]);
     Ok(())
+}
+
+/// How a format ends whose disk fails, and the generation of the next one.
+fn drawn_again(alloc: Global) -> Result<(Option<NodeFault>, u32), NodeFault> {
+    let mut reg = new_register(alloc)?;
+    let mut node = loaded(alloc, new_disk(alloc)?)?;
+    node.arm(Fault::FailAt(1));
+    let failed = drawn(alloc, &mut node, &mut reg).err();
+    let mut again = loaded(alloc, node.into_disk())?;
+    Ok((failed, drawn(alloc, &mut again, &mut reg)?))
 }
 
 #[test]
 fn a_format_that_fails_has_drawn(rt: HostRuntime) -> Result<(), Fail> {
-    let alloc = rt.alloc();
-    let mut reg = new_register(alloc)?;
-    let mut node = loaded(alloc, new_disk(alloc)?)?;
-    node.arm(Fault::FailAt(1));
-    assert_eq!(rt; drawn(alloc, &mut node, &mut reg), Err(NodeFault::Disk));
-    let mut again = loaded(alloc, node.into_disk())?;
-    assert_eq!(rt; drawn(alloc, &mut again, &mut reg), Ok(2));
+    assert_eq!(rt; drawn_again(rt.alloc())?, (Some(NodeFault::Disk), 2));
     Ok(())
 }

@@ -8,7 +8,6 @@ use ld_ids::{LogId, NoMemory, NodeId, NodeSet, Spec};
 use ld_node::{Node, NodeFault};
 use ld_register::{DiskRegister, Register};
 use std::alloc::Global;
-use std::test::Fail;
 
 pub(crate) fn log_of(number: u32) -> Result<LogId, NoMemory>
     ensures { IfOk result (λ log. log ≡ number) }
@@ -74,16 +73,6 @@ pub(crate) fn loaded(alloc: Global, disk: MemDisk) -> Result<Node<MemDisk>, Node
         Ok(node) => Ok(node),
         Err((_disk, fault)) => Err(fault),
     }
-}
-
-/// A disk with the format under generation 1, as the first version of journals wrote it.
-pub(crate) fn older_disk(alloc: Global) -> Result<MemDisk, Fail> {
-    let bytes = [1, 0, 0, 0, 6, 1, 0, 0, 0, 1, 0, 0];
-    let mut disk = new_disk(alloc)?;
-    disk.reserve(bytes.len() as u64, 2)?;
-    disk.write_at(0, &bytes)?;
-    disk.sync()?;
-    Ok(disk)
 }
 
 /// The generation under which a blank node is formatted.
