@@ -19,7 +19,7 @@ fn of_node(node: &NodeWords) -> [u64; 7] {
         3,
         u64::from(node.id.number()),
         u64::from(node.port),
-        node.turns,
+        u64::from(node.turns),
         u64::from(node.format),
         0,
         0,
@@ -32,7 +32,7 @@ fn of_log(kind: u64, words: &LogWords, style: u64, from: u64, until: u64) -> [u6
         kind,
         u64::from(words.log.number()),
         u64::from(words.port),
-        words.rounds,
+        u64::from(words.rounds),
         style,
         from,
         until,
@@ -52,7 +52,7 @@ fn of_style(style: Style) -> u64 {
 fn of_command(command: &Option<Command>) -> [u64; 7] {
     match command {
         Some(Command::Replay) => [1, 0, 0, 0, 0, 0, 0],
-        Some(Command::Exercise { seed, events }) => [2, *seed, *events, 0, 0, 0, 0],
+        Some(Command::Exercise { seed, events }) => [2, *seed, u64::from(*events), 0, 0, 0, 0],
         Some(Command::Node(node)) => of_node(node),
         Some(Command::Append(words)) => of_log(4, &words.of, u64::from(words.batches), 0, 0),
         Some(Command::Tail(words)) => of_log(
