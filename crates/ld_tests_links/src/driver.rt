@@ -1,69 +1,32 @@
 // One node in memory.
-ghost use Rattle.std.specs.Prelude.{◌≡◌, IfOk};
-ghost use Rattle.ld_msg.specs.Bounds.{IsMessage};
-ghost use Rattle.ld_config.specs.Bounds.{IsInBounds};
-
+use crate::dial::{dials, sends, takes_end};
 use ld_config::Config;
 use ld_dial::{Fault, Nodes};
 use ld_disk::MemDisk;
 use ld_driver::NodeLinks;
-use ld_host::{Formatted, Hosts};
-use ld_ids::{LogId, NoMemory, NodeId};
+use ld_host::Hosts;
+use ld_ids::{NoMemory, NodeId};
 use ld_io::Failed;
-use ld_lsn::Lsn;
-use ld_msg::{Body, Msg, Who};
 use ld_register::DiskRegister;
 use std::alloc::Global;
 use std::test::Fail;
 
-fn node_of(number: u8) -> Result<NodeId, NoMemory>
-    ensures { IfOk result (λ node. node ≡ number) }
-{
-    match NodeId::new(number) {
-        Some(node) => Ok(node),
-        None => Err(NoMemory),
-    }
-}
-
 /// Log 1 on node 1.
-fn config(alloc: Global) -> Result<Config, NoMemory>
-    ensures { IfOk result IsInBounds }
-{
-    let text = br#"{"nodes":[1],"logs":[{"id":1,"set":[1],"r":1}]}"#;
-    match Config::read(alloc, text) {
+fn config(alloc: Global) -> Result<Config, NoMemory> {
+    match Config::read(alloc, br#"{"nodes":[1],"logs":[{"id":1,"set":[1],"r":1}]}"#) {
         Ok(config) => Ok(config),
         Err(_) => Err(NoMemory),
     }
 }
 
-/// A reader asks node 1 for log 1, from number 1 on.
-fn ask() -> Result<Msg, NoMemory>
-    ensures { IfOk result IsMessage }
-{
-    let Some(log) = LogId::new(1) else {
-        return Err(NoMemory);
-    };
-    Ok(Msg {
-        from: Who::Reader(0),
-        to: Who::Node(node_of(1)?),
-        log,
-        body: Body::ReadAsk {
-            round: 1,
-            from: Lsn::new(0, 1),
-        },
-    })
-}
-
 /// Formats node 1 by a new register.
 fn format(alloc: Global, config: &Config, hosts: &mut Hosts) -> Result<(), NoMemory> {
-    let Ok(disk) = MemDisk::new(alloc) else {
+    let (Some(node), Ok(disk)) = (NodeId::new(1), MemDisk::new(alloc)) else {
         return Err(NoMemory);
     };
     let mut reg = DiskRegister::new(alloc, disk);
-    match hosts.format(alloc, node_of(1)?, config, &mut reg)? {
-        Formatted::Done(_) => Ok(()),
-        _ => Err(NoMemory),
-    }
+    let _ = hosts.format(alloc, node, config, &mut reg)?;
+    Ok(())
 }
 
 /// Node 1, which is up or blank.
@@ -76,42 +39,37 @@ fn nodes(alloc: Global, up: bool) -> Result<NodeLinks, NoMemory> {
     Ok(NodeLinks::new(alloc, config, hosts))
 }
 
-fn dials(nodes: &mut NodeLinks) -> Result<Result<(), Failed>, NoMemory> {
-    let node = node_of(1)?;
-    Ok(nodes.dial(node))
-}
-
-fn sends(alloc: Global, nodes: &mut NodeLinks) -> Result<(), Fault> {
-    let message = ask()?;
-    nodes.send(alloc, &message)
-}
-
-/// Takes an answer, and says whether it was the end of the log.
-fn takes_end(alloc: Global, nodes: &mut NodeLinks) -> Result<Option<bool>, Fault> {
-    match nodes.receive(alloc) {
-        Ok(Some(message)) => Ok(Some(matches!(&message.body, Body::ReadEnded { .. }))),
-        Ok(None) => Ok(None),
-        Err(fault) => Err(fault),
-    }
+/// Whether node 1 is dialed, takes an ask, and answers it once with the end of the log, and then it has ended.
+fn talk(alloc: Global) -> Result<[bool; 5], NoMemory> {
+    let mut nodes = nodes(alloc, true)?;
+    Ok([
+        dials(&mut nodes) == Ok(()),
+        sends(alloc, &mut nodes) == Ok(()),
+        takes_end(alloc, &mut nodes) == Ok(Some(true)),
+        takes_end(alloc, &mut nodes) == Ok(None),
+        nodes.endings() == 1,
+    ])
 }
 
 #[test]
 fn a_node_that_is_up_answers_once(rt: HostRuntime) -> Result<(), Fail> {
-    let alloc = rt.alloc();
-    let mut nodes = nodes(alloc, true)?;
-    assert_eq!(rt; dials(&mut nodes)?, Ok(()));
-    assert_eq!(rt; sends(alloc, &mut nodes), Ok(()));
-    assert_eq!(rt; takes_end(alloc, &mut nodes), Ok(Some(true)));
-    assert_eq!(rt; takes_end(alloc, &mut nodes), Ok(None));
+    assert_eq!(rt; talk(rt.alloc())?, [true; 5]);
     Ok(())
+}
+
+/// Whether a blank node isn't reached, takes no ask and answers nothing, and both faults are counted.
+fn silence(alloc: Global) -> Result<[bool; 4], NoMemory> {
+    let mut nodes = nodes(alloc, false)?;
+    Ok([
+        dials(&mut nodes) == Err(Failed),
+        sends(alloc, &mut nodes) == Err(Fault::Link),
+        takes_end(alloc, &mut nodes) == Ok(None),
+        nodes.failures() == 2,
+    ])
 }
 
 #[test]
 fn a_blank_node_is_not_reached(rt: HostRuntime) -> Result<(), Fail> {
-    let alloc = rt.alloc();
-    let mut nodes = nodes(alloc, false)?;
-    assert_eq!(rt; dials(&mut nodes)?, Err(Failed));
-    assert_eq!(rt; sends(alloc, &mut nodes), Err(Fault::Link));
-    assert_eq!(rt; takes_end(alloc, &mut nodes), Ok(None));
+    assert_eq!(rt; silence(rt.alloc())?, [true; 4]);
     Ok(())
 }

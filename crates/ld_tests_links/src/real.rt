@@ -4,109 +4,162 @@ use ld_ids::NodeId;
 use ld_io::Failed;
 use ld_link::{Dial, Link};
 use ld_real::{FileDisk, FileRegister, TcpLink};
-use ld_register::{Register, RegisterFault};
+use ld_register::Register;
 use std::alloc::Global;
 use std::fs;
 use std::io::{Read, Write};
 use std::net::{Ipv4Addr, TcpListener, TcpStream};
 use std::test::Fail;
 
+/// Whether a new file has one byte, and two more are written behind a gap and synced.
+fn writes(rt: &HostRuntime, path: &str) -> [bool; 3] {
+    let mut disk = FileDisk::new(rt, path);
+    [
+        disk.len() == Ok(1),
+        disk.write_at(3, &[7, 8]) == Ok(()),
+        disk.sync() == Ok(()),
+    ]
+}
+
+/// Whether five bytes of the file are read, and what stands in the buffer then.
+fn reads(rt: &HostRuntime, path: &str) -> (bool, [u8; 6]) {
+    let mut disk = FileDisk::new(rt, path);
+    let mut buf = [9; 6];
+    let done = disk.read(0, &mut buf) == Ok(5);
+    (done, buf)
+}
+
 #[test]
 fn a_file_keeps_what_was_written(rt: HostRuntime) -> Result<(), Fail> {
     let path = "ld_real_test_disk";
     let _ = fs::remove_file(&rt, path);
-    {
-        let mut disk = FileDisk::new(&rt, path);
-        assert_eq!(rt; disk.len(), Ok(1));
-        assert_eq!(rt; disk.write_at(3, &[7, 8]), Ok(()));
-        assert_eq!(rt; disk.sync(), Ok(()));
-    }
-    let mut disk = FileDisk::new(&rt, path);
-    let mut buf = [9; 6];
-    assert_eq!(rt; disk.read(0, &mut buf), Ok(5));
-    assert_eq!(rt; buf, [0, 0, 0, 7, 8, 9]);
+    let done = (writes(&rt, path), reads(&rt, path));
     fs::remove_file(&rt, path)?;
+    assert_eq!(rt; done, ([true; 3], (true, [0, 0, 0, 7, 8, 9])));
     Ok(())
 }
 
-/// The generation that a register draws for node 1.
-fn drawn<G: Register>(alloc: Global, register: &mut G) -> Result<u32, RegisterFault> {
+/// The generation that a register draws for node 1; 0 where it fails.
+fn drawn<G: Register>(alloc: Global, register: &mut G) -> u32 {
     let Some(node) = NodeId::new(1) else {
-        return Err(RegisterFault::Failed);
+        return 0;
     };
-    let drawn = register.draw(alloc, node)?;
-    Ok(drawn.gen_)
+    match register.draw(alloc, node) {
+        Ok(drawn) => drawn.gen_,
+        Err(_) => 0,
+    }
+}
+
+/// The generations that one register draws, then another over the same file, then the first one again.
+fn drawn_in_turn(rt: &HostRuntime, path: &str) -> [u32; 3] {
+    let mut one = FileRegister::new(rt, path);
+    let mut other = FileRegister::new(rt, path);
+    [
+        drawn(rt.alloc(), &mut one),
+        drawn(rt.alloc(), &mut other),
+        drawn(rt.alloc(), &mut one),
+    ]
 }
 
 #[test]
 fn a_register_sees_what_another_has_changed(rt: HostRuntime) -> Result<(), Fail> {
     let path = "ld_real_test_register";
     let _ = fs::remove_file(&rt, path);
-    let mut one = FileRegister::new(&rt, path);
-    let mut other = FileRegister::new(&rt, path);
-    assert_eq!(rt; drawn(rt.alloc(), &mut one), Ok(1));
-    assert_eq!(rt; drawn(rt.alloc(), &mut other), Ok(2));
-    assert_eq!(rt; drawn(rt.alloc(), &mut one), Ok(3));
+    let drawn = drawn_in_turn(&rt, path);
     fs::remove_file(&rt, path)?;
+    assert_eq!(rt; drawn, [1, 2, 3]);
     Ok(())
+}
+
+/// How many bytes a call was for; 99 where it failed.
+fn count(answer: Result<usize, Failed>) -> usize {
+    match answer {
+        Ok(count) => count,
+        Err(_) => 99,
+    }
+}
+
+/// How much a read, a write and a read at the end come to for a peer that says two bytes and then ends, and the byte that
+/// it gets.
+fn answered(rt: &HostRuntime) -> Result<([usize; 4], u8), Fail> {
+    let mut link = TcpLink::new(rt, 0);
+    let address = (Ipv4Addr::LOCALHOST, link.port()?);
+    let mut peer = TcpStream::connect(rt, address)?;
+    peer.write_all(&[1, 2])?;
+    let _ = link.next_peer();
+    let mut buf = [0; 4];
+    let read = count(link.read(&mut buf));
+    let written = count(link.write(&[3]));
+    let got = peer.read(&mut buf)?;
+    drop(peer);
+    let byte = buf[0];
+    Ok(([read, written, got, count(link.read(&mut buf))], byte))
 }
 
 #[test]
 fn a_peer_is_answered_until_it_ends(rt: HostRuntime) -> Result<(), Fail> {
-    let mut link = TcpLink::new(&rt, 0);
-    let address = (Ipv4Addr::LOCALHOST, link.port()?);
-    let mut peer = TcpStream::connect(&rt, address)?;
-    peer.write_all(&[1, 2])?;
-    assert_eq!(rt; link.next_peer(), Ok(true));
-    let mut buf = [0; 4];
-    assert_eq!(rt; link.read(&mut buf), Ok(2));
-    assert_eq!(rt; link.write(&[3]), Ok(1));
-    assert_eq!(rt; peer.read(&mut buf)?, 1);
-    assert_eq!(rt; buf[0], 3);
-    drop(peer);
-    assert_eq!(rt; link.read(&mut buf), Ok(0));
+    assert_eq!(rt; answered(&rt)?, ([2, 1, 1, 0], 3));
     Ok(())
 }
 
-/// A connection that is closed before what was sent to it is read is reset.
+/// How much a write, a read and a write come to for a peer that is reset: a connection that is closed before what was sent
+/// to it is read.
+fn reset(rt: &HostRuntime) -> Result<[usize; 3], Fail> {
+    let mut link = TcpLink::new(rt, 0);
+    let address = (Ipv4Addr::LOCALHOST, link.port()?);
+    let peer = TcpStream::connect(rt, address)?;
+    let _ = link.next_peer();
+    let first = count(link.write(&[3]));
+    drop(peer);
+    let read = count(link.read(&mut [0; 4]));
+    Ok([first, read, count(link.write(&[3, 4]))])
+}
+
 #[test]
 fn a_peer_that_is_reset_has_ended(rt: HostRuntime) -> Result<(), Fail> {
-    let mut link = TcpLink::new(&rt, 0);
-    let address = (Ipv4Addr::LOCALHOST, link.port()?);
-    let peer = TcpStream::connect(&rt, address)?;
-    assert_eq!(rt; link.next_peer(), Ok(true));
-    assert_eq!(rt; link.write(&[3]), Ok(1));
-    drop(peer);
-    let mut buf = [0; 4];
-    assert_eq!(rt; link.read(&mut buf), Ok(0));
-    assert_eq!(rt; link.write(&[3, 4]), Ok(2));
+    assert_eq!(rt; reset(&rt)?, [1, 0, 2]);
     Ok(())
+}
+
+/// Whether node 2 is dialed, how much a write, a read and a read at the end come to where it reads, answers one byte and ends,
+/// and what both got.
+fn dialed(rt: &HostRuntime) -> Result<(bool, [usize; 3], [u8; 4]), Fail> {
+    let listener = TcpListener::bind(rt, (Ipv4Addr::LOCALHOST, 0))?;
+    let mut link = TcpLink::new(rt, listener.local_addr()?.port().saturating_sub(2));
+    let dialed = link.dial(2) == Ok(());
+    let (mut node, _) = listener.accept()?;
+    let written = count(link.write(&[1, 2]));
+    let mut got = [0; 3];
+    let _ = node.read(&mut got)?;
+    node.write_all(&[3])?;
+    drop(node);
+    let mut buf = [0; 4];
+    let read = count(link.read(&mut buf));
+    let byte = buf[0];
+    let end = count(link.read(&mut buf));
+    Ok((dialed, [written, read, end], [got[0], got[1], got[2], byte]))
 }
 
 #[test]
 fn a_node_is_dialed_and_answers_until_it_ends(rt: HostRuntime) -> Result<(), Fail> {
-    let listener = TcpListener::bind(&rt, (Ipv4Addr::LOCALHOST, 0))?;
-    let mut link = TcpLink::new(&rt, listener.local_addr()?.port().saturating_sub(2));
-    assert_eq!(rt; link.dial(2), Ok(()));
-    let (mut node, _) = listener.accept()?;
-    assert_eq!(rt; link.write(&[1, 2]), Ok(2));
-    let mut buf = [0; 4];
-    assert_eq!(rt; node.read(&mut buf)?, 2);
-    assert_eq!(rt; buf, [1, 2, 0, 0]);
-    node.write_all(&[3])?;
-    drop(node);
-    assert_eq!(rt; link.read(&mut buf), Ok(1));
-    assert_eq!(rt; buf[0], 3);
-    assert_eq!(rt; link.read(&mut buf), Ok(0));
+    assert_eq!(rt; dialed(&rt)?, (true, [2, 1, 0], [1, 2, 0, 3]));
     Ok(())
+}
+
+/// Whether a dial of a port that is closed fails, and a write behind it, and both are counted.
+fn refused(rt: &HostRuntime) -> Result<[bool; 3], Fail> {
+    let listener = TcpListener::bind(rt, (Ipv4Addr::LOCALHOST, 0))?;
+    let mut link = TcpLink::new(rt, listener.local_addr()?.port());
+    drop(listener);
+    Ok([
+        link.dial(0) == Err(Failed),
+        link.write(&[1]) == Err(Failed),
+        link.failures() == 2,
+    ])
 }
 
 #[test]
 fn a_dial_that_nobody_takes_fails(rt: HostRuntime) -> Result<(), Fail> {
-    let listener = TcpListener::bind(&rt, (Ipv4Addr::LOCALHOST, 0))?;
-    let mut link = TcpLink::new(&rt, listener.local_addr()?.port());
-    drop(listener);
-    assert_eq!(rt; link.dial(0), Err(Failed));
-    assert_eq!(rt; link.write(&[1]), Err(Failed));
+    assert_eq!(rt; refused(&rt)?, [true; 3]);
     Ok(())
 }

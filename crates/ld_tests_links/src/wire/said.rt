@@ -1,16 +1,48 @@
-// What each sample frame says.
+// What a frame of each kind says, told by hand.
+use crate::link::copied;
 use crate::wire::samples::{
-    CLEAN, CLEAN_HERE, DIGEST_ASK, DIGEST_PAGE, LOST_HERE, LOST_HERE_READER, READ_ASK, READ_ENDED,
-    READ_ONE, READ_PAGE, READ_PAGE_PLUG, READ_PAGE_WITHHELD, READ_TRIM, READ_WAIT, RELEASE,
-    SEALED_HERE, STORE, STORE_BRIDGE, STORE_PLUG, STORED, TRIM, TRIMMED_HERE,
+    CLEAN, CLEAN_HERE, DIGEST_ASK, DIGEST_PAGE, LOST_HERE, LOST_HERE_READER, READ_ASK,
+    READ_ASK_NODE, READ_ENDED, READ_ONE, READ_PAGE, READ_TRIM, READ_WAIT, RELEASE, SEALED_HERE,
+    STORE, STORE_BRIDGE, STORED, TRIM, TRIMMED_HERE,
 };
-use crate::wire::{ASK, ENDED, TRIM_TO_E1N1, framed};
+use crate::wire::{is_spelled, next};
 use ld_ids::{LogId, NoMemory, NodeId, NodeSet, Payload};
 use ld_lsn::Lsn;
 use ld_msg::{Body, Entries, Entry, Msg, Summary, What, Who};
 use ld_wire::Decoder;
 use std::alloc::Global;
 use std::test::Fail;
+use std::vec;
+
+/// Whether the next message is this one, and spelled as the frame.
+fn is_next(alloc: Global, decoder: &mut Decoder, frame: &[u8], expected: &Msg) -> bool {
+    match decoder.take(alloc) {
+        Ok(Some(message)) => message == *expected && is_spelled(alloc, &message, frame),
+        Ok(None) => false,
+        Err(_) => false,
+    }
+}
+
+/// Whether the frame, fed byte by byte, is taken behind its last byte, as just this message of the log, and nothing is left.
+fn is_said(alloc: Global, frame: &[u8], from: Who, to: Who, log: u32, body: Body) -> bool {
+    let Some(log) = LogId::new(log) else {
+        return false;
+    };
+    let message = Msg {
+        from,
+        to,
+        log,
+        body,
+    };
+    let mut decoder = Decoder::new(alloc);
+    for byte in frame {
+        if next(alloc, &mut decoder, frame) != Ok(None) {
+            return false;
+        }
+        let _ = decoder.feed(&[*byte]);
+    }
+    is_next(alloc, &mut decoder, frame, &message) && next(alloc, &mut decoder, frame) == Ok(None)
+}
 
 fn node(number: u8) -> Who {
     match NodeId::new(number) {
@@ -19,264 +51,193 @@ fn node(number: u8) -> Who {
     }
 }
 
-fn message(from: Who, to: Who, log: u32, body: Body) -> Option<Msg> {
-    match LogId::new(log) {
-        Some(log) => Some(Msg {
-            from,
-            to,
-            log,
-            body,
-        }),
-        None => None,
-    }
+/// What sequencer 3 says to node 4.
+fn tells(alloc: Global, frame: &[u8], body: Body) -> bool {
+    is_said(alloc, frame, Who::Sequencer(3), node(4), 9, body)
 }
 
-/// The message that bytes begin with, where there is one.
-fn first_of(alloc: Global, bytes: &[u8]) -> Option<Msg> {
-    let mut decoder = Decoder::new(alloc);
-    if decoder.feed(bytes).is_err() {
-        return None;
-    }
-    match decoder.take(alloc) {
-        Ok(found) => found,
-        Err(_) => None,
-    }
+/// What node 4 says to sequencer 3.
+fn answers(alloc: Global, frame: &[u8], body: Body) -> bool {
+    is_said(alloc, frame, node(4), Who::Sequencer(3), 9, body)
 }
 
-/// Whether the bytes begin with this message.
-fn is_first(alloc: Global, bytes: &[u8], expected: Option<Msg>) -> bool {
-    expected.is_some() && first_of(alloc, bytes) == expected
+/// What reader 7 says to node 4.
+fn asks(alloc: Global, frame: &[u8], body: Body) -> bool {
+    is_said(alloc, frame, Who::Reader(7), node(4), 9, body)
 }
 
-/// Whether the bytes behind a length are this message of log 9.
-fn says(alloc: Global, bytes: &[u8], from: Who, to: Who, body: Body) -> bool {
-    match framed(alloc, bytes) {
-        Ok(frame) => is_first(alloc, &frame, message(from, to, 9, body)),
-        Err(_) => false,
-    }
+/// What node 4 says to reader 7.
+fn reads(alloc: Global, frame: &[u8], body: Body) -> bool {
+    is_said(alloc, frame, node(4), Who::Reader(7), 9, body)
 }
 
-fn record(alloc: Global, number: Lsn, ballot: u32, bytes: &[u8]) -> Result<Entry, NoMemory> {
-    Ok(Entry {
-        number,
-        ballot,
-        what: What::Rec(Payload::new(Vec::from_slice(alloc, bytes)?)),
-    })
+/// A record of the bytes; without memory it has none.
+fn record(alloc: Global, bytes: &[u8]) -> What {
+    What::Rec(Payload::new(copied(alloc, bytes)))
 }
 
-fn hole(number: Lsn, ballot: u32) -> Entry {
+fn entry(epoch: u32, place: u32, ballot: u32, what: What) -> Entry {
     Entry {
-        number,
+        number: Lsn::new(epoch, place),
         ballot,
-        what: What::Hole,
+        what,
     }
 }
 
-#[test]
-fn a_trim_is_written_so(rt: HostRuntime) -> Result<(), Fail> {
-    let trim = Body::Trim {
-        trim: Lsn::new(1, 1),
-    };
-    assert!(rt;
-        is_first(
-            rt.alloc(),
-            TRIM_TO_E1N1,
-            message(Who::Sequencer(1), node(1), 1, trim)
-        )
-    );
-    Ok(())
-}
-
-#[test]
-fn a_reader_asks_and_is_answered_so(rt: HostRuntime) -> Result<(), Fail> {
-    let ask = Body::ReadAsk {
-        round: 1,
-        from: Lsn::new(0, 1),
-    };
-    let ended = Body::ReadEnded {
-        round: 1,
-        from: Lsn::new(0, 1),
-        end: Lsn::new(0, 1),
-        loss: false,
-    };
-    assert!(rt; is_first(rt.alloc(), ASK, message(Who::Reader(0), node(1), 1, ask)));
-    assert!(rt;
-        is_first(
-            rt.alloc(),
-            ENDED,
-            message(node(1), Who::Reader(0), 1, ended)
-        )
-    );
-    Ok(())
-}
-
-#[test]
-fn stores_are_read(rt: HostRuntime) -> Result<(), Fail> {
-    let alloc = rt.alloc();
-    let what = What::Rec(Payload::new(Vec::from_slice(alloc, b"hi")?));
-    assert!(rt;
-        says(
+fn says_stores_and_a_trim(alloc: Global) -> [bool; 3] {
+    [
+        tells(
             alloc,
             STORE,
-            Who::Sequencer(3),
-            node(4),
             Body::Store {
                 number: Lsn::new(3, 5),
                 lng: 2,
-                what
-            }
-        )
-    );
-    assert!(rt;
-        says(
+                what: record(alloc, b"hi"),
+            },
+        ),
+        tells(
             alloc,
             STORE_BRIDGE,
-            Who::Sequencer(3),
-            node(4),
             Body::Store {
                 number: Lsn::new(2, u32::MAX),
                 lng: 0,
-                what: What::Bridge
-            }
-        )
-    );
-    assert!(rt;
-        says(
+                what: What::Bridge,
+            },
+        ),
+        is_said(
             alloc,
-            STORE_PLUG,
-            Who::Sequencer(3),
-            node(4),
-            Body::Store {
-                number: Lsn::new(2, 5),
-                lng: 0,
-                what: What::Plug
-            }
-        )
-    );
-    assert!(rt;
-        says(
-            alloc,
-            STORED,
-            node(4),
-            Who::Sequencer(3),
-            Body::Stored {
-                number: Lsn::new(3, 5)
-            }
-        )
-    );
-    Ok(())
+            TRIM,
+            Who::Sequencer(1),
+            node(1),
+            1,
+            Body::Trim {
+                trim: Lsn::new(1, 1),
+            },
+        ),
+    ]
 }
 
 #[test]
-fn seals_and_losses_are_read(rt: HostRuntime) -> Result<(), Fail> {
-    let alloc = rt.alloc();
-    assert!(rt;
-        says(
+fn stores_and_a_trim_are_said_so(rt: HostRuntime) -> Result<(), Fail> {
+    assert_eq!(rt; says_stores_and_a_trim(rt.alloc()), [true; 3]);
+    Ok(())
+}
+
+fn says_answers(alloc: Global) -> [bool; 5] {
+    [
+        answers(
+            alloc,
+            STORED,
+            Body::Stored {
+                number: Lsn::new(3, 5),
+            },
+        ),
+        answers(
             alloc,
             SEALED_HERE,
-            node(4),
-            Who::Sequencer(3),
             Body::SealedHere {
                 number: Lsn::new(3, 5),
-                sealed: 7
-            }
-        )
-    );
-    assert!(rt;
-        says(
+                sealed: 7,
+            },
+        ),
+        answers(
             alloc,
             LOST_HERE,
-            node(4),
-            Who::Sequencer(3),
             Body::LostHere {
                 number: Lsn::new(3, 5),
                 round: 0,
                 generation: 6,
-                end: Lsn::new(0, 0)
-            }
-        )
-    );
-    assert!(rt;
-        says(
+                end: Lsn::new(0, 0),
+            },
+        ),
+        is_said(
             alloc,
             LOST_HERE_READER,
             node(4),
             Who::Reader(999),
+            9,
             Body::LostHere {
                 number: Lsn::new(3, 5),
                 round: 8,
                 generation: 6,
-                end: Lsn::new(4, 0)
-            }
-        )
-    );
-    assert!(rt;
-        says(
+                end: Lsn::new(4, 0),
+            },
+        ),
+        answers(
             alloc,
             TRIMMED_HERE,
-            node(4),
-            Who::Sequencer(3),
             Body::TrimmedHere {
                 number: Lsn::new(3, 5),
-                trim: Lsn::new(3, 6)
-            }
-        )
-    );
-    Ok(())
+                trim: Lsn::new(3, 6),
+            },
+        ),
+    ]
 }
 
 #[test]
-fn closed_epochs_are_read(rt: HostRuntime) -> Result<(), Fail> {
-    let alloc = rt.alloc();
-    let summary = Summary {
-        ballot: 4,
-        lng: 0,
+fn a_nodes_answers_are_said_so(rt: HostRuntime) -> Result<(), Fail> {
+    assert_eq!(rt; says_answers(rt.alloc()), [true; 5]);
+    Ok(())
+}
+
+/// How an epoch was closed.
+fn summary(ballot: u32, lng: u32, loss: bool) -> Summary {
+    Summary {
+        ballot,
+        lng,
         trim: Lsn::new(1, 1),
         end: 6,
-        loss: false,
-    };
-    assert!(rt;
-        says(
+        loss,
+    }
+}
+
+fn says_closes(alloc: Global) -> [bool; 4] {
+    [
+        answers(
             alloc,
             CLEAN_HERE,
-            node(4),
-            Who::Sequencer(3),
             Body::CleanHere {
                 number: Lsn::new(2, 5),
-                summary
-            }
-        )
-    );
-    let summary = Summary {
-        ballot: 3,
-        lng: 1,
-        trim: Lsn::new(1, 1),
-        end: 6,
-        loss: true,
-    };
-    assert!(rt;
-        says(
+                summary: summary(4, 0, false),
+            },
+        ),
+        tells(
             alloc,
             CLEAN,
-            Who::Sequencer(3),
-            node(4),
-            Body::Clean { epoch: 2, summary }
-        )
-    );
-    Ok(())
+            Body::Clean {
+                epoch: 2,
+                summary: summary(3, 1, true),
+            },
+        ),
+        tells(
+            alloc,
+            DIGEST_ASK,
+            Body::DigestAsk {
+                from: Lsn::new(2, 1),
+            },
+        ),
+        tells(
+            alloc,
+            RELEASE,
+            Body::Release {
+                released: Lsn::new(3, 4),
+            },
+        ),
+    ]
 }
 
 #[test]
-fn digests_are_read(rt: HostRuntime) -> Result<(), Fail> {
-    let alloc = rt.alloc();
-    let mut entries = Entries::empty(alloc);
-    entries.push(record(alloc, Lsn::new(2, 1), 2, b"ab")?)?;
-    entries.push(hole(Lsn::new(2, 2), 3))?;
-    entries.push(Entry {
-        number: Lsn::new(2, 9),
-        ballot: 2,
-        what: What::Bridge,
-    })?;
+fn closes_and_releases_are_said_so(rt: HostRuntime) -> Result<(), Fail> {
+    assert_eq!(rt; says_closes(rt.alloc()), [true; 4]);
+    Ok(())
+}
+
+fn says_digest(alloc: Global) -> Result<bool, NoMemory> {
+    let entries = Entries::new(vec![in alloc;
+        entry(2, 1, 2, record(alloc, b"ab")),
+        entry(2, 2, 3, What::Hole),
+        entry(2, 9, 2, What::Bridge),
+    ]?);
     let body = Body::DigestPage {
         from: Lsn::new(2, 1),
         upto: Lsn::new(2, 9),
@@ -284,55 +245,16 @@ fn digests_are_read(rt: HostRuntime) -> Result<(), Fail> {
         lng: 3,
         entries,
     };
-    assert!(rt; says(alloc, DIGEST_PAGE, node(4), Who::Sequencer(3), body));
-    assert!(rt;
-        says(
-            alloc,
-            DIGEST_ASK,
-            Who::Sequencer(3),
-            node(4),
-            Body::DigestAsk {
-                from: Lsn::new(2, 1)
-            }
-        )
-    );
-    Ok(())
+    Ok(answers(alloc, DIGEST_PAGE, body))
 }
 
-#[test]
-fn what_a_sequencer_tells_is_read(rt: HostRuntime) -> Result<(), Fail> {
-    let alloc = rt.alloc();
-    assert!(rt;
-        says(
-            alloc,
-            RELEASE,
-            Who::Sequencer(3),
-            node(4),
-            Body::Release {
-                released: Lsn::new(3, 4)
-            }
-        )
-    );
-    assert!(rt;
-        says(
-            alloc,
-            TRIM,
-            Who::Sequencer(3),
-            node(4),
-            Body::Trim {
-                trim: Lsn::new(3, 2)
-            }
-        )
-    );
-    Ok(())
-}
-
-#[test]
-fn read_pages_are_read(rt: HostRuntime) -> Result<(), Fail> {
-    let alloc = rt.alloc();
-    let mut entries = Entries::empty(alloc);
-    entries.push(record(alloc, Lsn::new(1, 1), 1, b"x")?)?;
-    entries.push(hole(Lsn::new(1, 3), 2))?;
+fn says_page(alloc: Global) -> Result<bool, NoMemory> {
+    let entries = Entries::new(vec![in alloc;
+        entry(1, 1, 1, record(alloc, b"x")),
+        entry(1, 3, 2, What::Hole),
+        entry(1, 4, 2, What::Plug),
+        entry(1, 5, 2, What::Withheld),
+    ]?);
     let body = Body::ReadPage {
         round: 5,
         from: Lsn::new(1, 1),
@@ -340,111 +262,91 @@ fn read_pages_are_read(rt: HostRuntime) -> Result<(), Fail> {
         clean: true,
         entries,
     };
-    assert!(rt; says(alloc, READ_PAGE, node(4), Who::Reader(7), body));
-    assert!(rt;
-        says(
+    Ok(reads(alloc, READ_PAGE, body))
+}
+
+#[test]
+fn pages_are_said_so(rt: HostRuntime) -> Result<(), Fail> {
+    assert!(rt; says_digest(rt.alloc())?);
+    assert!(rt; says_page(rt.alloc())?);
+    Ok(())
+}
+
+fn says_asks(alloc: Global) -> [bool; 3] {
+    [
+        asks(
             alloc,
             READ_ASK,
-            Who::Reader(7),
-            node(4),
             Body::ReadAsk {
                 round: 5,
-                from: Lsn::new(1, 1)
-            }
-        )
-    );
-    Ok(())
+                from: Lsn::new(1, 1),
+            },
+        ),
+        is_said(
+            alloc,
+            READ_ASK_NODE,
+            node(16),
+            node(4),
+            9,
+            Body::ReadAsk {
+                round: 0,
+                from: Lsn::new(1, 1),
+            },
+        ),
+        asks(
+            alloc,
+            READ_ONE,
+            Body::ReadOne {
+                round: 5,
+                from: Lsn::new(1, 1),
+                set: NodeSet::from_bits(0x8007),
+                excluded: NodeSet::from_bits(2),
+            },
+        ),
+    ]
 }
 
 #[test]
-fn plugs_are_read(rt: HostRuntime) -> Result<(), Fail> {
-    let alloc = rt.alloc();
-    let mut entries = Entries::empty(alloc);
-    entries.push(Entry {
-        number: Lsn::new(1, 2),
-        ballot: 2,
-        what: What::Plug,
-    })?;
-    let body = Body::ReadPage {
-        round: 5,
-        from: Lsn::new(1, 1),
-        upto: Lsn::new(1, 3),
-        clean: true,
-        entries,
-    };
-    assert!(rt; says(alloc, READ_PAGE_PLUG, node(4), Who::Reader(7), body));
+fn asks_are_said_so(rt: HostRuntime) -> Result<(), Fail> {
+    assert_eq!(rt; says_asks(rt.alloc()), [true; 3]);
     Ok(())
 }
 
-#[test]
-fn one_copy_is_asked_for_and_withheld_by_the_others(rt: HostRuntime) -> Result<(), Fail> {
-    let alloc = rt.alloc();
-    let body = Body::ReadOne {
-        round: 5,
-        from: Lsn::new(1, 1),
-        set: NodeSet::from_bits(0x8007),
-        excluded: NodeSet::from_bits(2),
-    };
-    assert!(rt; says(alloc, READ_ONE, Who::Reader(7), node(4), body));
-    let mut entries = Entries::empty(alloc);
-    entries.push(Entry {
-        number: Lsn::new(1, 2),
-        ballot: 2,
-        what: What::Withheld,
-    })?;
-    let body = Body::ReadPage {
-        round: 5,
-        from: Lsn::new(1, 1),
-        upto: Lsn::new(1, 3),
-        clean: true,
-        entries,
-    };
-    assert!(rt; says(alloc, READ_PAGE_WITHHELD, node(4), Who::Reader(7), body));
-    Ok(())
-}
-
-#[test]
-fn other_answers_are_read(rt: HostRuntime) -> Result<(), Fail> {
-    let alloc = rt.alloc();
-    assert!(rt;
-        says(
+fn says_ends(alloc: Global) -> [bool; 3] {
+    [
+        reads(
             alloc,
             READ_ENDED,
-            node(4),
-            Who::Reader(7),
             Body::ReadEnded {
                 round: 5,
                 from: Lsn::new(1, 9),
                 end: Lsn::new(1, 8),
-                loss: true
-            }
-        )
-    );
-    assert!(rt;
-        says(
+                loss: true,
+            },
+        ),
+        reads(
             alloc,
             READ_TRIM,
-            node(4),
-            Who::Reader(7),
             Body::ReadTrim {
                 round: 5,
                 from: Lsn::new(1, 9),
-                trim: Lsn::new(1, 8)
-            }
-        )
-    );
-    assert!(rt;
-        says(
+                trim: Lsn::new(1, 8),
+            },
+        ),
+        reads(
             alloc,
             READ_WAIT,
-            node(4),
-            Who::Reader(7),
             Body::ReadWait {
                 round: 5,
                 from: Lsn::new(1, 9),
-                released: Lsn::new(1, 8)
-            }
-        )
-    );
+                released: Lsn::new(1, 8),
+            },
+        ),
+    ]
+}
+
+#[test]
+fn where_reading_ends_is_said_so(rt: HostRuntime) -> Result<(), Fail> {
+    assert_eq!(rt; says_ends(rt.alloc()), [true; 3]);
     Ok(())
 }
