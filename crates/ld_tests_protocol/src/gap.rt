@@ -1,4 +1,5 @@
 // Verdicts on held answers.
+use crate::nodes::nodes;
 use ld_gap::{Held, Item, Verdict, decide};
 use ld_ids::{NoMemory, NodeId, NodeSet, Payload};
 use ld_lsn::Lsn;
@@ -24,62 +25,26 @@ fn letter(set: &NodeSet, held: &Held) -> u8 {
     }
 }
 
-// A page of e1n1 to e1n9 without entries.
-fn empty_page(alloc: Global, clean: bool) -> Body {
+// A page of e1n1 to e1n9 with these entries.
+fn page(clean: bool, entries: Entries) -> Body {
     Body::ReadPage {
         round: 1,
         from: Lsn::new(1, 1),
         upto: Lsn::new(1, 9),
         clean,
-        entries: Entries::empty(alloc),
+        entries,
     }
 }
 
-// A node gives such a page.
-fn hold_empty_page(alloc: Global, held: &mut Held, node: NodeId, clean: bool) {
-    held.hold(node, empty_page(alloc, clean));
-}
-
-// A node says that it lost epoch 1.
-fn hold_lost(held: &mut Held, node: NodeId) {
-    held.hold(
-        node,
-        Body::LostHere {
-            number: Lsn::new(1, 1),
-            round: 1,
-            generation: 2,
-            end: Lsn::from_u64(0),
-        },
-    );
-}
-
-// A node tells a trim up to a place of epoch 1.
-fn hold_trim(held: &mut Held, node: NodeId, round: u32, esn: u32) {
-    held.hold(
-        node,
-        Body::ReadTrim {
-            round,
-            from: Lsn::new(1, 1),
-            trim: Lsn::new(1, esn),
-        },
-    );
-}
-
 // A clean page with this at e1n1.
-fn page(alloc: Global, what: What) -> Result<Body, NoMemory> {
+fn page_with(alloc: Global, what: What) -> Result<Body, NoMemory> {
     let mut entries = Entries::empty(alloc);
     entries.push(Entry {
         number: Lsn::new(1, 1),
         ballot: 1,
         what,
     })?;
-    Ok(Body::ReadPage {
-        round: 1,
-        from: Lsn::new(1, 1),
-        upto: Lsn::new(1, 1),
-        clean: true,
-        entries,
-    })
+    Ok(page(true, entries))
 }
 
 // Epoch 1 ends at its first number.
@@ -92,30 +57,57 @@ fn ended(loss: bool) -> Body {
     }
 }
 
-// The answer that has this letter where no other is held.
+// A node says that it lost epoch 1.
+fn lost() -> Body {
+    Body::LostHere {
+        number: Lsn::new(1, 1),
+        round: 1,
+        generation: 2,
+        end: Lsn::from_u64(0),
+    }
+}
+
+// The trim of a round up to a place of epoch 1.
+fn trimmed(round: u32, esn: u32) -> Body {
+    Body::ReadTrim {
+        round,
+        from: Lsn::new(1, 1),
+        trim: Lsn::new(1, esn),
+    }
+}
+
+// The answer that has this letter where no other is held, and these besides: `w` for a record withheld, `e` for a clean page without
+// entries, `u` for one that isn't clean, `x` for a lost epoch, and a trim to the place 0 in round 2 for `0`, to the place 1 in
+// round 1 for `1` and in round 2 for `2`.
 fn answer(alloc: Global, letter: u8) -> Result<Body, NoMemory> {
     match letter {
         b'b' => Ok(ended(false)),
         b'L' => Ok(ended(true)),
-        b'h' => page(alloc, What::Hole),
-        b'l' => page(alloc, What::Plug),
-        b'w' => page(alloc, What::Withheld),
-        b'e' => Ok(empty_page(alloc, true)),
-        _ => page(alloc, What::Rec(Payload::new(Vec::new(alloc)))),
+        b'h' => page_with(alloc, What::Hole),
+        b'l' => page_with(alloc, What::Plug),
+        b'w' => page_with(alloc, What::Withheld),
+        b'e' => Ok(page(true, Entries::empty(alloc))),
+        b'u' => Ok(page(false, Entries::empty(alloc))),
+        b'x' => Ok(lost()),
+        b'0' => Ok(trimmed(2, 0)),
+        b'1' => Ok(trimmed(1, 1)),
+        b'2' => Ok(trimmed(2, 1)),
+        _ => page_with(alloc, What::Rec(Payload::new(Vec::new(alloc)))),
     }
 }
 
-// What two nodes' answers show, the lower node's first.
-fn letter_of_two(alloc: Global, lower: u8, higher: u8) -> Result<u8, NoMemory> {
+// What is shown after each answer of a node, given by its number, to a reader of the nodes from 1 up to another.
+fn shown(alloc: Global, last: u8, answers: &[(u8, u8)]) -> Result<Vec<u8>, NoMemory> {
+    let set = nodes(1, last);
     let mut held = Held::nothing();
-    let mut set = NodeSet::empty();
-    for (number, shown) in [(2, higher), (1, lower)] {
-        if let Some(node) = NodeId::new(number) {
-            held.hold(node, answer(alloc, shown)?);
-            set = set.with(node);
+    let mut all = Vec::new(alloc);
+    for (number, given) in answers {
+        if let Some(node) = NodeId::new(*number) {
+            held.hold(node, answer(alloc, *given)?);
         }
+        all.push(letter(&set, &held))?;
     }
-    Ok(letter(&set, &held))
+    Ok(all)
 }
 
 #[test]
@@ -137,39 +129,23 @@ fn records_come_before_holes_holes_before_plugs_and_these_before_copies_to_ask_a
         (b'e', b'w', b'a'),
         (b'e', b'h', b'h'),
     ] {
-        assert_eq!(rt; letter_of_two(alloc, lower, higher)?, given);
+        let all = shown(alloc, 2, &[(2, higher), (1, lower)])?;
+        assert!(rt; all.as_slice().last() == Some(&given));
     }
     Ok(())
 }
 
 #[test]
 fn only_clean_pages_and_lost_nodes_together_are_a_loss(rt: HostRuntime) -> Result<(), Fail> {
-    let alloc = rt.alloc();
-    let one = NodeId::new(1).expect(&rt, "a node");
-    let two = NodeId::new(2).expect(&rt, "a node");
-    let set = NodeSet::empty().with(one).with(two);
-    let mut held = Held::nothing();
-    hold_empty_page(alloc, &mut held, one, true);
-    assert_eq!(rt; letter(&set, &held), b'n');
-    hold_empty_page(alloc, &mut held, two, true);
-    assert_eq!(rt; letter(&set, &held), b'n');
-    hold_lost(&mut held, two);
-    assert_eq!(rt; letter(&set, &held), b'c');
-    hold_empty_page(alloc, &mut held, one, false);
-    assert_eq!(rt; letter(&set, &held), b'n');
+    let all = shown(rt.alloc(), 2, &[(1, b'e'), (2, b'e'), (2, b'x'), (1, b'u')])?;
+    assert!(rt; all.as_slice() == b"nncn".as_slice());
     Ok(())
 }
 
 #[test]
 fn a_lost_node_outside_the_set_makes_no_loss(rt: HostRuntime) -> Result<(), Fail> {
-    let alloc = rt.alloc();
-    let one = NodeId::new(1).expect(&rt, "a node");
-    let two = NodeId::new(2).expect(&rt, "a node");
-    let set = NodeSet::empty().with(one);
-    let mut held = Held::nothing();
-    hold_empty_page(alloc, &mut held, one, true);
-    hold_lost(&mut held, two);
-    assert_eq!(rt; letter(&set, &held), b'n');
+    let all = shown(rt.alloc(), 1, &[(1, b'e'), (2, b'x')])?;
+    assert!(rt; all.as_slice() == b"nn".as_slice());
     Ok(())
 }
 
@@ -177,13 +153,7 @@ fn a_lost_node_outside_the_set_makes_no_loss(rt: HostRuntime) -> Result<(), Fail
 fn an_answer_of_an_equal_round_replaces_one_of_a_greater_round_stays(
     rt: HostRuntime,
 ) -> Result<(), Fail> {
-    let one = NodeId::new(1).expect(&rt, "a node");
-    let set = NodeSet::empty().with(one);
-    let mut held = Held::nothing();
-    hold_trim(&mut held, one, 2, 0);
-    hold_trim(&mut held, one, 1, 1);
-    assert_eq!(rt; letter(&set, &held), b'n');
-    hold_trim(&mut held, one, 2, 1);
-    assert_eq!(rt; letter(&set, &held), b't');
+    let all = shown(rt.alloc(), 1, &[(1, b'0'), (1, b'1'), (1, b'2')])?;
+    assert!(rt; all.as_slice() == b"nnt".as_slice());
     Ok(())
 }

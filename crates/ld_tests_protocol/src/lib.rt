@@ -12,9 +12,13 @@ mod digest;
 #[cfg(test)]
 mod gap;
 #[cfg(test)]
+mod kept;
+#[cfg(test)]
 mod msg;
 #[cfg(test)]
 mod net;
+#[cfg(test)]
+mod nodes;
 #[cfg(test)]
 mod plan;
 #[cfg(test)]

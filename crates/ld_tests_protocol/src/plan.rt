@@ -2,8 +2,9 @@
 ghost use Rattle.std.specs.Prelude.{IfOk};
 ghost use Rattle.ld_digest.specs.Gathering.{AreInPlace};
 
+use crate::nodes::nodes;
 use ld_digest::{Digest, Page};
-use ld_ids::{LogId, NoMemory, NodeId, NodeSet, Payload, Spec};
+use ld_ids::{LogId, NoMemory, NodeId, Payload, Spec};
 use ld_lsn::Lsn;
 use ld_msg::{Entries, Entry, What};
 use ld_plan::plan;
@@ -15,15 +16,9 @@ const LAST: u32 = 4_294_967_295;
 
 // Nothing is told of epoch 1 of a log on three nodes, with each record on two of them.
 fn nothing_told(alloc: Global, log: LogId) -> Result<Digest, NoMemory> {
-    let mut set = NodeSet::empty();
-    for number in [1, 2, 3] {
-        if let Some(node) = NodeId::new(number) {
-            set = set.with(node);
-        }
-    }
     let spec = Spec {
         log,
-        set,
+        set: nodes(1, 3),
         r: 2,
         extras: 0,
     };
@@ -52,7 +47,7 @@ fn records(alloc: Global, list: &[(u32, u32, u8)]) -> Result<Entries, NoMemory>
 fn tells(
     alloc: Global,
     digest: &mut Digest,
-    node: NodeId,
+    number: u8,
     trim: u32,
     lng: u32,
     list: &[(u32, u32, u8)],
@@ -65,7 +60,9 @@ fn tells(
         lng: lng.min(LAST - 1),
         entries: &entries,
     };
-    digest.add(alloc, node, &page)?;
+    if let Some(node) = NodeId::new(number) {
+        digest.add(alloc, node, &page)?;
+    }
     Ok(())
 }
 
@@ -91,69 +88,74 @@ fn planned(alloc: Global, digest: &Digest) -> Result<Vec<u8>, NoMemory> {
     Ok(all)
 }
 
+// The plan of what the first node tells, a last known good place and records, and of what the second one tells, a trim and records.
+fn plan_of_two(
+    alloc: Global,
+    log: LogId,
+    lng: u32,
+    first: &[(u32, u32, u8)],
+    trim: u32,
+    second: &[(u32, u32, u8)],
+) -> Result<Vec<u8>, NoMemory> {
+    let mut digest = nothing_told(alloc, log)?;
+    tells(alloc, &mut digest, 1, 0, lng, first)?;
+    tells(alloc, &mut digest, 2, trim, 0, second)?;
+    planned(alloc, &digest)
+}
+
 #[test]
 fn a_lone_record_is_kept_and_the_gap_before_it_is_a_hole(rt: HostRuntime) -> Result<(), Fail> {
-    let alloc = rt.alloc();
-    let one = NodeId::new(1).expect(&rt, "a node");
-    let two = NodeId::new(2).expect(&rt, "a node");
-    let mut digest = nothing_told(alloc, LogId::new(1).expect(&rt, "a log"))?;
-    tells(alloc, &mut digest, one, 0, 0, &[(1, 1, 1), (3, 1, 3)])?;
-    tells(alloc, &mut digest, two, 0, 0, &[(1, 1, 1)])?;
-    let all = planned(alloc, &digest)?;
+    let log = LogId::new(1).expect(&rt, "a log");
+    let all = plan_of_two(rt.alloc(), log, 0, &[(1, 1, 1), (3, 1, 3)], 0, &[(1, 1, 1)])?;
     assert!(rt; all.as_slice() == [1, 100, 3, 101].as_slice());
     Ok(())
 }
 
 #[test]
 fn trimmed_numbers_are_not_planned(rt: HostRuntime) -> Result<(), Fail> {
-    let alloc = rt.alloc();
-    let one = NodeId::new(1).expect(&rt, "a node");
-    let two = NodeId::new(2).expect(&rt, "a node");
-    let mut digest = nothing_told(alloc, LogId::new(1).expect(&rt, "a log"))?;
-    tells(alloc, &mut digest, one, 0, 0, &[(1, 1, 1), (3, 1, 3)])?;
-    tells(alloc, &mut digest, two, 3, 0, &[])?;
-    let all = planned(alloc, &digest)?;
+    let log = LogId::new(1).expect(&rt, "a log");
+    let all = plan_of_two(rt.alloc(), log, 0, &[(1, 1, 1), (3, 1, 3)], 3, &[])?;
     assert!(rt; all.as_slice() == [101].as_slice());
     Ok(())
 }
 
 #[test]
 fn what_is_known_good_is_not_planned(rt: HostRuntime) -> Result<(), Fail> {
-    let alloc = rt.alloc();
-    let one = NodeId::new(1).expect(&rt, "a node");
-    let two = NodeId::new(2).expect(&rt, "a node");
-    let mut digest = nothing_told(alloc, LogId::new(1).expect(&rt, "a log"))?;
-    tells(alloc, &mut digest, one, 0, 2, &[(2, 1, 2), (3, 1, 3)])?;
-    tells(alloc, &mut digest, two, 0, 0, &[])?;
-    let all = planned(alloc, &digest)?;
+    let log = LogId::new(1).expect(&rt, "a log");
+    let all = plan_of_two(rt.alloc(), log, 2, &[(2, 1, 2), (3, 1, 3)], 0, &[])?;
     assert!(rt; all.as_slice() == [3, 101].as_slice());
     Ok(())
 }
 
 #[test]
 fn the_greatest_ballot_decides(rt: HostRuntime) -> Result<(), Fail> {
-    let alloc = rt.alloc();
-    let one = NodeId::new(1).expect(&rt, "a node");
-    let two = NodeId::new(2).expect(&rt, "a node");
-    let mut digest = nothing_told(alloc, LogId::new(1).expect(&rt, "a log"))?;
-    tells(alloc, &mut digest, one, 0, 0, &[(1, 1, 7)])?;
-    tells(alloc, &mut digest, two, 0, 0, &[(1, 2, 9)])?;
-    let all = planned(alloc, &digest)?;
+    let log = LogId::new(1).expect(&rt, "a log");
+    let all = plan_of_two(rt.alloc(), log, 0, &[(1, 1, 7)], 0, &[(1, 2, 9)])?;
     assert!(rt; all.as_slice() == [9, 101].as_slice());
     Ok(())
 }
 
+// How many items are planned while the third node may still tell, and the plan once it and the second one are lost.
+fn plan_of_one(
+    alloc: Global,
+    log: LogId,
+    two: NodeId,
+    three: NodeId,
+) -> Result<(usize, Vec<u8>), NoMemory> {
+    let mut digest = nothing_told(alloc, log)?;
+    tells(alloc, &mut digest, 1, 0, 0, &[(1, 1, 1), (3, 1, 3)])?;
+    digest.lost(two);
+    let early = planned(alloc, &digest)?.len();
+    digest.lost(three);
+    Ok((early, planned(alloc, &digest)?))
+}
+
 #[test]
 fn where_two_nodes_are_lost_a_gap_is_a_plug(rt: HostRuntime) -> Result<(), Fail> {
-    let alloc = rt.alloc();
-    let one = NodeId::new(1).expect(&rt, "a node");
-    let mut digest = nothing_told(alloc, LogId::new(1).expect(&rt, "a log"))?;
-    tells(alloc, &mut digest, one, 0, 0, &[(1, 1, 1), (3, 1, 3)])?;
-    digest.lost(NodeId::new(2).expect(&rt, "a node"));
-    // node 3 may still tell
-    assert_eq!(rt; planned(alloc, &digest)?.len(), 0);
-    digest.lost(NodeId::new(3).expect(&rt, "a node"));
-    let all = planned(alloc, &digest)?;
-    assert!(rt; all.as_slice() == [1, 102, 3, 101].as_slice());
+    let log = LogId::new(1).expect(&rt, "a log");
+    let two = NodeId::new(2).expect(&rt, "a node");
+    let three = NodeId::new(3).expect(&rt, "a node");
+    let (early, all) = plan_of_one(rt.alloc(), log, two, three)?;
+    assert!(rt; early == 0 && all.as_slice() == [1, 102, 3, 101].as_slice());
     Ok(())
 }
