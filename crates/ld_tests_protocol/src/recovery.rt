@@ -1,9 +1,11 @@
 // The recovery of epoch 1 by the sequencer of epoch 2, of a log on the nodes 1, 2 and 3 with each record on two.
 ghost use Rattle.std.specs.Prelude.{◌≡◌, ◌≤◌, ◌<◌, ◌-◌, ◌^◌, true, false};
+ghost use Rattle.ld_msg.specs.Bounds.{IsMessage};
 ghost use Rattle.ld_recovery.specs.Recovering.{IsReplyTo};
 ghost use Rattle.ld_recovery.specs.States.{is_epoch_answer};
 
-use ld_ids::{LogId, NoMemory, NodeId, NodeSet, Spec};
+use crate::nodes::nodes;
+use ld_ids::{LogId, NoMemory, NodeId, Spec};
 use ld_lsn::Lsn;
 use ld_msg::{Body, Entries, Msg, Outbox, Summary, Who};
 use ld_recovery::{Answer, Recovery, State};
@@ -17,42 +19,12 @@ const LAST: u32 = 4_294_967_295;
 fn three_nodes(log: LogId) -> Spec
     ensures { result.r ≡ 2 }
 {
-    let mut set = NodeSet::empty();
-    for number in [1, 2, 3] {
-        if let Some(node) = NodeId::new(number) {
-            set = set.with(node);
-        }
-    }
     Spec {
         log,
-        set,
+        set: nodes(1, 3),
         r: 2,
         extras: 0,
     }
-}
-
-// The recovery begins.
-fn begin(alloc: Global, log: LogId, out: &mut Outbox) -> Result<Recovery, NoMemory> {
-    Recovery::start(alloc, &three_nodes(log), 1, 2, out)
-}
-
-// What a node replies.
-#[derive(Clone, Copy)]
-enum Reply {
-    // It has nothing of the epoch.
-    Nothing,
-    // It stored the bridge at the place 1.
-    Stored,
-    // It trimmed all up to the place 1.
-    Trimmed,
-    // It is sealed by an epoch.
-    Sealed(u32),
-    // It lost the epoch.
-    Lost,
-    // The epoch is clean there.
-    Clean,
-    // The epoch of the recovery's own sequencer is clean there.
-    OwnClean,
 }
 
 // A node stored what has this place.
@@ -136,275 +108,296 @@ fn nothing(alloc: Global, from: u32, upto: u32) -> Body
     }
 }
 
-// The body of a reply.
-fn body(alloc: Global, reply: Reply) -> Body
+// The body of a reply: `n` where the node has nothing of the epoch, `s` where it stored the bridge at the place 1, `t` where it trimmed
+// all up to the place 1, a digit where it is sealed by that epoch, `l` where it lost the epoch, `c` where the epoch is clean there,
+// and `o` where the epoch of the recovery's own sequencer is.
+fn body(alloc: Global, reply: u8) -> Body
     ensures { IsReplyTo 2 result }
 {
     match reply {
-        Reply::Nothing => nothing(alloc, 1, LAST),
-        Reply::Stored => stored(1),
-        Reply::Trimmed => trimmed(1),
-        Reply::Sealed(by) => sealed(by),
-        Reply::Lost => lost(),
-        Reply::Clean => clean(1, 7),
-        Reply::OwnClean => clean(2, 7),
+        b'n' => nothing(alloc, 1, LAST),
+        b's' => stored(1),
+        b't' => trimmed(1),
+        b'2' => sealed(2),
+        b'3' => sealed(3),
+        b'l' => lost(),
+        b'c' => clean(1, 7),
+        _ => clean(2, 7),
     }
 }
 
-// A message of a node comes.
-fn comes(
-    alloc: Global,
-    recovery: &mut Recovery,
-    log: LogId,
-    node: NodeId,
-    body: Body,
-    out: &mut Outbox,
-) -> Result<(), NoMemory>
-    requires { IsReplyTo 2 body }
+// A node's reply.
+fn message(alloc: Global, log: LogId, node: NodeId, reply: u8) -> Msg
+    ensures { IsMessage result }
 {
     let _ = (log.number(), node.number());
-    let msg = Msg {
-        from: Who::Node(node),
-        to: Who::Sequencer(2),
-        log,
-        body,
-    };
-    recovery.on_reply(alloc, &msg, out)
-}
-
-// Whether a node's reply would leave the digest spent.
-fn spends(alloc: Global, recovery: &Recovery, log: LogId, node: NodeId, reply: Reply) -> bool {
-    let _ = (log.number(), node.number());
-    let msg = Msg {
+    Msg {
         from: Who::Node(node),
         to: Who::Sequencer(2),
         log,
         body: body(alloc, reply),
-    };
-    recovery.spends(&msg)
-}
-
-// What is lost is planned, where the digest is spent. Tells whether it was.
-fn loses(alloc: Global, recovery: &mut Recovery, out: &mut Outbox) -> Result<bool, NoMemory> {
-    if !recovery.spent() {
-        return Ok(false);
     }
-    recovery.lose(alloc, out)?;
-    Ok(true)
 }
 
-// A node's reply comes.
-fn replies(
+// What the register answers to a close: `T` that the epoch is closed, `B` that it closed the epoch 1 and no later one before, `O`
+// that a later epoch was handed out, and otherwise that it failed.
+fn told(letter: u8) -> Answer
+    ensures { is_epoch_answer result ≡ true }
+{
+    match letter {
+        b'T' => Answer::Taken,
+        b'B' => Answer::Behind(1),
+        b'O' => Answer::Overtaken(9),
+        _ => Answer::Failed,
+    }
+}
+
+// The register's answer comes, where the recovery is closing.
+fn close(recovery: &mut Recovery, letter: u8, out: &mut Outbox) -> Result<(), NoMemory> {
+    match recovery.state() {
+        State::Closing(_, _) => recovery.closed(told(letter), out),
+        _ => Ok(()),
+    }
+}
+
+// The sequencer acts: `r` for a retry, `x` for a plan of what is lost, where the digest is spent, and otherwise by the register's answer.
+fn acts(
+    alloc: Global,
+    recovery: &mut Recovery,
+    letter: u8,
+    out: &mut Outbox,
+) -> Result<(), NoMemory> {
+    match letter {
+        b'r' => recovery.retry(alloc, out),
+        b'x' if recovery.spent() => recovery.lose(alloc, out),
+        _ => close(recovery, letter, out),
+    }
+}
+
+// What is done: by a node where it is of a number, by the sequencer where that is 0.
+fn does(
     alloc: Global,
     recovery: &mut Recovery,
     log: LogId,
-    node: NodeId,
-    reply: Reply,
+    step: &(u8, u8),
     out: &mut Outbox,
 ) -> Result<(), NoMemory> {
-    comes(alloc, recovery, log, node, body(alloc, reply), out)
-}
-
-// The register's answer comes. The end that the recovery was closing with, 0 where it wasn't closing.
-fn close(recovery: &mut Recovery, answer: Answer, out: &mut Outbox) -> Result<u32, NoMemory>
-    requires { is_epoch_answer answer ≡ true }
-{
-    match recovery.state() {
-        State::Closing(summary, _) => {
-            recovery.closed(answer, out)?;
-            Ok(summary.end)
-        }
-        _ => Ok(0),
+    let (number, letter) = *step;
+    match NodeId::new(number) {
+        Some(node) => recovery.on_reply(alloc, &message(alloc, log, node, letter), out),
+        None => acts(alloc, recovery, letter, out),
     }
 }
 
-// The epoch is closed, as the register says.
-fn close_taken(recovery: &mut Recovery, out: &mut Outbox) -> Result<u32, NoMemory> {
-    close(recovery, Answer::Taken, out)
-}
-
-// The register failed to close the epoch.
-fn close_failed(recovery: &mut Recovery, out: &mut Outbox) -> Result<u32, NoMemory> {
-    close(recovery, Answer::Failed, out)
-}
-
-// The register says that it closed the epoch 1 and no later one before.
-fn close_late(recovery: &mut Recovery, out: &mut Outbox) -> Result<u32, NoMemory> {
-    close(recovery, Answer::Behind(1), out)
-}
-
-// The register says that a later epoch was handed out.
-fn close_overtaken(recovery: &mut Recovery, out: &mut Outbox) -> Result<u32, NoMemory> {
-    close(recovery, Answer::Overtaken(9), out)
-}
-
-// The state, as one letter: k for a short close.
-fn letter(recovery: &Recovery) -> u8 {
+// The state, as one letter, and the end that the epoch is closed with, 0 where it isn't: `w` for a digest that is spent, `k` for a
+// short close.
+fn state(recovery: &Recovery) -> (u8, u32) {
     match recovery.state() {
-        State::Sealing => b's',
-        State::Storing => b't',
-        State::Closing(_, false) => b'c',
-        State::Closing(_, true) => b'k',
-        State::Done(_) => b'd',
-        State::Gone(_) => b'g',
-        State::Preempted(_) => b'p',
+        State::Sealing if recovery.spent() => (b'w', 0),
+        State::Sealing => (b's', 0),
+        State::Storing => (b't', 0),
+        State::Closing(summary, false) => (b'c', summary.end),
+        State::Closing(summary, true) => (b'k', summary.end),
+        State::Done(summary) => (b'd', summary.end),
+        State::Gone(_) => (b'g', 0),
+        State::Preempted(_) => (b'p', 0),
     }
 }
 
-// The replies up to the close, each with its node, and with the state and the count of all messages after it.
-const WHOLE: [(u8, Reply, u8, usize); 6] = [
-    (1, Reply::Nothing, b's', 3),
-    (1, Reply::Lost, b's', 3),
-    (2, Reply::Nothing, b's', 3),
-    (3, Reply::Nothing, b't', 5),
-    (3, Reply::Stored, b't', 5),
-    (2, Reply::Trimmed, b'c', 5),
-];
+// The state's letter, its end and how many messages are sent, after each step of a recovery from its begin on.
+fn steps(alloc: Global, log: LogId, all: &[(u8, u8)]) -> Result<Vec<(u8, u32, usize)>, NoMemory> {
+    let mut out = Outbox::empty(alloc);
+    let mut recovery = Recovery::start(alloc, &three_nodes(log), 1, 2, &mut out)?;
+    let mut shown = Vec::new(alloc);
+    for step in all {
+        does(alloc, &mut recovery, log, step, &mut out)?;
+        let (letter, end) = state(&recovery);
+        shown.push((letter, end, out.len()))?;
+    }
+    Ok(shown)
+}
 
 #[test]
 fn an_epoch_that_no_node_has_is_closed_with_a_bridge(rt: HostRuntime) -> Result<(), Fail> {
-    let alloc = rt.alloc();
     let log = LogId::new(1).expect(&rt, "a log");
-    let mut out = Outbox::empty(alloc);
-    let mut recovery = begin(alloc, log, &mut out)?;
-    'rows: for (number, reply, state, sent) in WHOLE {
-        let node = NodeId::new(number).expect(&rt, "a node");
-        replies(alloc, &mut recovery, log, node, reply, &mut out)?;
-        assert_eq!(rt; letter(&recovery), state);
-        assert_eq!(rt; out.len(), sent);
-    }
-    assert_eq!(rt; close_failed(&mut recovery, &mut out)?, 1);
-    assert_eq!(rt; letter(&recovery), b'c');
-    assert_eq!(rt; close_taken(&mut recovery, &mut out)?, 1);
-    assert_eq!(rt; letter(&recovery), b'd');
-    assert_eq!(rt; out.len(), 8);
+    let rows = [
+        (1, b'n'),
+        (1, b'l'),
+        (2, b'n'),
+        (3, b'n'),
+        (3, b's'),
+        (2, b't'),
+        (0, b'F'),
+        (0, b'T'),
+    ];
+    let shown = steps(rt.alloc(), log, &rows)?;
+    assert!(rt;
+        shown.as_slice()
+            == [
+                (b's', 0, 3),
+                (b's', 0, 3),
+                (b's', 0, 3),
+                (b't', 0, 5),
+                (b't', 0, 5),
+                (b'c', 1, 5),
+                (b'c', 1, 5),
+                (b'd', 1, 8)
+            ]
+            .as_slice()
+    );
     Ok(())
 }
 
 #[test]
 fn a_register_that_is_ahead_ends_it(rt: HostRuntime) -> Result<(), Fail> {
-    let alloc = rt.alloc();
     let log = LogId::new(1).expect(&rt, "a log");
-    let mut out = Outbox::empty(alloc);
-    let mut recovery = begin(alloc, log, &mut out)?;
-    'rows: for (number, reply, state, _) in WHOLE {
-        let node = NodeId::new(number).expect(&rt, "a node");
-        replies(alloc, &mut recovery, log, node, reply, &mut out)?;
-        assert_eq!(rt; letter(&recovery), state);
-    }
-    assert_eq!(rt; close_late(&mut recovery, &mut out)?, 1);
-    assert_eq!(rt; letter(&recovery), b'g');
+    let rows = [(1, b'n'), (2, b'n'), (1, b's'), (2, b's'), (0, b'B')];
+    let shown = steps(rt.alloc(), log, &rows)?;
+    assert!(rt;
+        shown.as_slice()
+            == [
+                (b's', 0, 3),
+                (b't', 0, 5),
+                (b't', 0, 5),
+                (b'c', 1, 5),
+                (b'g', 0, 5)
+            ]
+            .as_slice()
+    );
     Ok(())
 }
 
 #[test]
 fn a_retry_asks_for_what_is_wanted(rt: HostRuntime) -> Result<(), Fail> {
-    let alloc = rt.alloc();
     let log = LogId::new(1).expect(&rt, "a log");
-    let mut out = Outbox::empty(alloc);
-    let mut recovery = begin(alloc, log, &mut out)?;
     // three nodes are asked twice, and two are once one has replied; once another has, two are to store the bridge
-    'rows: for (number, replied, asked) in [(3, 6, 8), (1, 12, 14)] {
-        recovery.retry(alloc, &mut out)?;
-        let node = NodeId::new(number).expect(&rt, "a node");
-        replies(alloc, &mut recovery, log, node, Reply::Nothing, &mut out)?;
-        assert_eq!(rt; out.len(), replied);
-        recovery.retry(alloc, &mut out)?;
-        assert_eq!(rt; out.len(), asked);
-    }
+    let rows = [
+        (0, b'r'),
+        (3, b'n'),
+        (0, b'r'),
+        (0, b'r'),
+        (1, b'n'),
+        (0, b'r'),
+    ];
+    let shown = steps(rt.alloc(), log, &rows)?;
+    assert!(rt;
+        shown.as_slice()
+            == [
+                (b's', 0, 6),
+                (b's', 0, 6),
+                (b's', 0, 8),
+                (b's', 0, 10),
+                (b't', 0, 12),
+                (b't', 0, 14)
+            ]
+            .as_slice()
+    );
     Ok(())
 }
 
 #[test]
 fn word_of_another_sequencer_ends_it(rt: HostRuntime) -> Result<(), Fail> {
-    let alloc = rt.alloc();
     let log = LogId::new(1).expect(&rt, "a log");
-    let node = NodeId::new(1).expect(&rt, "a node");
     let rows = [
-        (Reply::Sealed(2), b's', 3),
-        (Reply::Sealed(3), b'p', 3),
-        (Reply::OwnClean, b'p', 3),
-        (Reply::Clean, b'd', 6),
+        (b'2', b's', 0, 3),
+        (b'3', b'p', 0, 3),
+        (b'o', b'p', 0, 3),
+        (b'c', b'd', 9, 6),
     ];
-    'rows: for (reply, state, sent) in rows {
-        let mut out = Outbox::empty(alloc);
-        let mut recovery = begin(alloc, log, &mut out)?;
-        replies(alloc, &mut recovery, log, node, reply, &mut out)?;
-        assert_eq!(rt; letter(&recovery), state);
-        assert_eq!(rt; out.len(), sent);
+    'rows: for (reply, letter, end, sent) in rows {
+        let shown = steps(rt.alloc(), log, &[(1, reply)])?;
+        assert!(rt; shown.as_slice() == [(letter, end, sent)].as_slice());
     }
     Ok(())
 }
 
 #[test]
 fn a_digest_that_is_spent_waits_for_a_look(rt: HostRuntime) -> Result<(), Fail> {
-    let alloc = rt.alloc();
     let log = LogId::new(1).expect(&rt, "a log");
-    let mut out = Outbox::empty(alloc);
-    let mut recovery = begin(alloc, log, &mut out)?;
+    // it isn't asked again, and the bridge goes to node 1 alone
     let rows = [
-        (1, Reply::Nothing, false),
-        (2, Reply::Lost, false),
-        (3, Reply::Lost, true),
+        (1, b'n'),
+        (2, b'l'),
+        (3, b'l'),
+        (0, b'r'),
+        (0, b'x'),
+        (1, b's'),
+        (0, b'O'),
     ];
-    'rows: for (number, reply, spent) in rows {
-        let node = NodeId::new(number).expect(&rt, "a node");
-        assert_eq!(rt; spends(alloc, &recovery, log, node, reply), spent);
-        replies(alloc, &mut recovery, log, node, reply, &mut out)?;
-        assert_eq!(rt; recovery.spent(), spent);
+    let shown = steps(rt.alloc(), log, &rows)?;
+    assert!(rt;
+        shown.as_slice()
+            == [
+                (b's', 0, 3),
+                (b's', 0, 3),
+                (b'w', 0, 3),
+                (b'w', 0, 3),
+                (b't', 0, 4),
+                (b'k', 1, 4),
+                (b'p', 0, 4)
+            ]
+            .as_slice()
+    );
+    Ok(())
+}
+
+// Whether each reply would leave the digest spent, that of node 1 first.
+fn spends(alloc: Global, log: LogId, all: &[(u8, u8)]) -> Result<Vec<bool>, NoMemory> {
+    let mut out = Outbox::empty(alloc);
+    let mut recovery = Recovery::start(alloc, &three_nodes(log), 1, 2, &mut out)?;
+    let mut shown = Vec::new(alloc);
+    for (number, reply) in all {
+        if let Some(node) = NodeId::new(*number) {
+            let msg = message(alloc, log, node, *reply);
+            shown.push(recovery.spends(&msg))?;
+            recovery.on_reply(alloc, &msg, &mut out)?;
+        }
     }
-    // it isn't asked again
-    recovery.retry(alloc, &mut out)?;
-    assert_eq!(rt; letter(&recovery), b's');
-    assert_eq!(rt; out.len(), 3);
-    // the bridge goes to node 1 alone
-    assert!(rt; loses(alloc, &mut recovery, &mut out)?);
-    assert_eq!(rt; letter(&recovery), b't');
-    assert_eq!(rt; out.len(), 4);
-    let one = NodeId::new(1).expect(&rt, "a node");
-    replies(alloc, &mut recovery, log, one, Reply::Stored, &mut out)?;
-    assert_eq!(rt; letter(&recovery), b'k');
-    assert_eq!(rt; close_overtaken(&mut recovery, &mut out)?, 1);
-    assert_eq!(rt; letter(&recovery), b'p');
+    Ok(shown)
+}
+
+#[test]
+fn the_reply_that_would_leave_the_digest_spent_is_told_before(rt: HostRuntime) -> Result<(), Fail> {
+    let log = LogId::new(1).expect(&rt, "a log");
+    let shown = spends(rt.alloc(), log, &[(1, b'n'), (2, b'l'), (3, b'l')])?;
+    assert!(rt; shown.as_slice() == [false, false, true].as_slice());
     Ok(())
 }
 
 #[test]
 fn a_plan_that_too_few_nodes_are_left_for_is_closed_short(rt: HostRuntime) -> Result<(), Fail> {
-    let alloc = rt.alloc();
     let log = LogId::new(1).expect(&rt, "a log");
-    let mut out = Outbox::empty(alloc);
-    let mut recovery = begin(alloc, log, &mut out)?;
-    let rows = [
-        (1, Reply::Nothing, b's', 3),
-        (2, Reply::Nothing, b't', 5),
-        (2, Reply::Lost, b't', 5),
-        (3, Reply::Lost, b't', 5),
-        (1, Reply::Stored, b'k', 5),
-    ];
-    'rows: for (number, reply, state, sent) in rows {
-        let node = NodeId::new(number).expect(&rt, "a node");
-        replies(alloc, &mut recovery, log, node, reply, &mut out)?;
-        assert_eq!(rt; letter(&recovery), state);
-        assert_eq!(rt; out.len(), sent);
-    }
+    let rows = [(1, b'n'), (2, b'n'), (2, b'l'), (3, b'l'), (1, b's')];
+    let shown = steps(rt.alloc(), log, &rows)?;
+    assert!(rt;
+        shown.as_slice()
+            == [
+                (b's', 0, 3),
+                (b't', 0, 5),
+                (b't', 0, 5),
+                (b't', 0, 5),
+                (b'k', 1, 5)
+            ]
+            .as_slice()
+    );
     Ok(())
 }
 
 #[test]
 fn a_plan_that_no_node_is_left_for_is_closed_at_a_retry(rt: HostRuntime) -> Result<(), Fail> {
-    let alloc = rt.alloc();
     let log = LogId::new(1).expect(&rt, "a log");
-    let mut out = Outbox::empty(alloc);
-    let mut recovery = begin(alloc, log, &mut out)?;
-    'nodes: for number in [1, 2, 3] {
-        let node = NodeId::new(number).expect(&rt, "a node");
-        replies(alloc, &mut recovery, log, node, Reply::Lost, &mut out)?;
-    }
-    assert!(rt; loses(alloc, &mut recovery, &mut out)?);
-    assert_eq!(rt; letter(&recovery), b't');
-    recovery.retry(alloc, &mut out)?;
-    assert_eq!(rt; letter(&recovery), b'k');
-    assert_eq!(rt; out.len(), 3);
+    let rows = [(1, b'l'), (2, b'l'), (3, b'l'), (0, b'x'), (0, b'r')];
+    let shown = steps(rt.alloc(), log, &rows)?;
+    assert!(rt;
+        shown.as_slice()
+            == [
+                (b's', 0, 3),
+                (b's', 0, 3),
+                (b'w', 0, 3),
+                (b't', 0, 3),
+                (b'k', 1, 3)
+            ]
+            .as_slice()
+    );
     Ok(())
 }
