@@ -166,7 +166,7 @@ fn told_of_the_other(alloc: Global) -> Result<(Answer, u8), NodeFault> {
 
 #[test]
 fn what_is_stored_is_there_after_a_load(rt: HostRuntime) -> Result<(), Fail> {
-    assert_eq!(rt; told_of_the_other(rt.alloc())?, (Answer::PageOf(1, 0), 8));
+    assert!(rt; told_of_the_other(rt.alloc()) == Ok((Answer::PageOf(1, 0), 8)));
     Ok(())
 }
 
@@ -183,15 +183,15 @@ fn answered_with(alloc: Global, fault: Fault) -> Result<[Result<Answer, NodeFaul
 
 #[test]
 fn what_is_there_already_is_not_written_again(rt: HostRuntime) -> Result<(), Fail> {
-    let answers = answered_with(rt.alloc(), Fault::FailAt(1))?;
-    assert_eq!(rt; answers, [Ok(Answer::Stored), Err(NodeFault::Disk)]);
+    let answers = [Ok(Answer::Stored), Err(NodeFault::Disk)];
+    assert!(rt; answered_with(rt.alloc(), Fault::FailAt(1)) == Ok(answers));
     Ok(())
 }
 
 #[test]
 fn a_node_whose_read_failed_has_to_be_loaded_again(rt: HostRuntime) -> Result<(), Fail> {
-    let answers = answered_with(rt.alloc(), Fault::FailReadAt(1))?;
-    assert_eq!(rt; answers, [Err(NodeFault::Disk), Err(NodeFault::NeedsLoad)]);
+    let answers = [Err(NodeFault::Disk), Err(NodeFault::NeedsLoad)];
+    assert!(rt; answered_with(rt.alloc(), Fault::FailReadAt(1)) == Ok(answers));
     Ok(())
 }
 
@@ -205,7 +205,7 @@ fn told_of_the_second(alloc: Global) -> Result<Answer, NodeFault> {
 
 #[test]
 fn what_is_known_good_is_there_after_a_load(rt: HostRuntime) -> Result<(), Fail> {
-    assert_eq!(rt; told_of_the_second(rt.alloc())?, Answer::PageOf(1, 1));
+    assert!(rt; told_of_the_second(rt.alloc()) == Ok(Answer::PageOf(1, 1)));
     Ok(())
 }
 
@@ -220,7 +220,7 @@ fn told_under_a_seal(alloc: Global) -> Result<[Answer; 2], NodeFault> {
 
 #[test]
 fn a_store_refused_under_a_seal_tells_nothing_known_good(rt: HostRuntime) -> Result<(), Fail> {
-    let answers = told_under_a_seal(rt.alloc())?;
-    assert_eq!(rt; answers, [Answer::SealedUnder(2), Answer::PageOf(0, 0)]);
+    let answers = [Answer::SealedUnder(2), Answer::PageOf(0, 0)];
+    assert!(rt; told_under_a_seal(rt.alloc()) == Ok(answers));
     Ok(())
 }

@@ -112,12 +112,19 @@ fn played(
     Ok([before, plays(alloc, &mut run, second)])
 }
 
-// The same of the second sequencer on the same nodes, behind steps that come to nothing: what the last ones come to.
-fn next_played(alloc: Global, first: &[Step], second: &[Step]) -> Result<Played, NoMemory> {
-    let [(before, _), last] = played(alloc, &[[1, 2, 3]], first, second)?;
-    match before {
-        Ok(report) if report == Report::nothing() => Ok(last),
-        _ => Err(NoMemory),
+// Whether the second sequencer on the same nodes comes to this by the last of these steps, and to nothing by the first ones; and how many messages the last
+// ones send.
+fn next_plays(
+    alloc: Global,
+    first: &[Step],
+    last: &[Step],
+    wanted: &Report,
+) -> Result<(bool, usize), NoMemory> {
+    let [(before, _), (after, sent)] = played(alloc, &[[1, 2, 3]], first, last)?;
+    let is_nothing = before == Ok(Report::nothing());
+    match after {
+        Ok(report) => Ok((is_nothing && report == *wanted, sent)),
+        Err(_) => Ok((false, sent)),
     }
 }
 
@@ -154,9 +161,10 @@ fn it_is_settled_where_nothing_waits(rt: HostRuntime) -> Result<(), Fail> {
 
 #[test]
 fn the_next_sequencer_closes_the_epoch(rt: HostRuntime) -> Result<(), Fail> {
-    let last = next_played(rt.alloc(), &NEARLY_CLOSED, &[Step::Stores(1)])?;
+    let closed = closed_at(Lsn::new(1, 1), Lsn::new(2, 0));
+    let told = next_plays(rt.alloc(), &NEARLY_CLOSED, &[Step::Stores(1)], &closed)?;
     // all three nodes of each epoch hear that it is closed, and what is released
-    assert!(rt; last == (Ok(closed_at(Lsn::new(1, 1), Lsn::new(2, 0))), 6));
+    assert_eq!(rt; told, (true, 6));
     Ok(())
 }
 
@@ -194,10 +202,10 @@ fn a_failed_close_is_tried_again_by_a_retry(rt: HostRuntime) -> Result<(), Fail>
     let mut failed = Report::nothing();
     failed.register = Some(CloseFault::Failed);
     let fails = [Step::Fails, Step::Stores(1)];
-    assert!(rt; next_played(alloc, &NEARLY_CLOSED, &fails)?.0 == Ok(failed));
+    assert!(rt; next_plays(alloc, &NEARLY_CLOSED, &fails, &failed)?.0);
+    let closed = closed_at(Lsn::new(1, 1), Lsn::new(2, 0));
     let retries = [Step::Fails, Step::Stores(1), Step::Retries];
-    let retried = next_played(alloc, &NEARLY_CLOSED, &retries)?;
-    assert!(rt; retried.0 == Ok(closed_at(Lsn::new(1, 1), Lsn::new(2, 0))));
+    assert!(rt; next_plays(alloc, &NEARLY_CLOSED, &retries, &closed)?.0);
     Ok(())
 }
 
@@ -269,31 +277,35 @@ fn a_failed_look_has_done_nothing(rt: HostRuntime) -> Result<(), Fail> {
 fn a_spent_digest_says_what_is_lost(rt: HostRuntime) -> Result<(), Fail> {
     let alloc = rt.alloc();
     // the epoch's end goes to the one node that isn't lost, which closes it
-    let spent = next_played(alloc, &NEARLY_SPENT, &[Step::Loses(3)])?;
-    assert!(rt; spent == (Ok(Report::nothing()), 1));
-    let closed = next_played(alloc, &NEARLY_SPENT, &[Step::Loses(3), Step::Stores(1)])?;
-    assert!(rt; closed.0 == Ok(closed_at(Lsn::new(1, 1), Lsn::new(2, 0))));
+    let spent = next_plays(alloc, &NEARLY_SPENT, &[Step::Loses(3)], &Report::nothing())?;
+    assert_eq!(rt; spent, (true, 1));
+    let closed = closed_at(Lsn::new(1, 1), Lsn::new(2, 0));
+    let stores = [Step::Loses(3), Step::Stores(1)];
+    assert!(rt; next_plays(alloc, &NEARLY_SPENT, &stores, &closed)?.0);
     Ok(())
 }
 
 #[test]
-fn a_spent_digest_is_preempted_by_a_greater_epoch(rt: HostRuntime) -> Result<(), Fail> {
-    let last = next_played(rt.alloc(), &NEARLY_SPENT, &[Step::Next, Step::Loses(3)])?;
-    assert!(rt; last == (Ok(preempted()), 0));
-    Ok(())
-}
-
-#[test]
-fn a_spent_digest_of_a_closed_epoch_is_passed(rt: HostRuntime) -> Result<(), Fail> {
-    let last = next_played(rt.alloc(), &NEARLY_SPENT, &[Step::Closes, Step::Loses(3)])?;
-    assert!(rt; last == (Ok(released(Lsn::new(2, 0))), 6));
-    Ok(())
-}
-
-#[test]
-fn a_short_close_is_overtaken(rt: HostRuntime) -> Result<(), Fail> {
+fn a_spent_digest_gives_way_to_what_the_register_shows(rt: HostRuntime) -> Result<(), Fail> {
+    let alloc = rt.alloc();
+    // a greater epoch preempts it
+    let next = next_plays(
+        alloc,
+        &NEARLY_SPENT,
+        &[Step::Next, Step::Loses(3)],
+        &preempted(),
+    )?;
+    assert_eq!(rt; next, (true, 0));
+    // an epoch that is closed is passed
+    let passed = released(Lsn::new(2, 0));
+    let closes = [Step::Closes, Step::Loses(3)];
+    assert_eq!(rt;
+        next_plays(alloc, &NEARLY_SPENT, &closes, &passed)?,
+        (true, 6)
+    );
+    // and a short close is overtaken
     let steps = [Step::Loses(3), Step::Next, Step::Stores(1)];
-    assert!(rt; next_played(rt.alloc(), &NEARLY_SPENT, &steps)?.0 == Ok(preempted()));
+    assert!(rt; next_plays(alloc, &NEARLY_SPENT, &steps, &preempted())?.0);
     Ok(())
 }
 

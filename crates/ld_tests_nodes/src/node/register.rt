@@ -100,7 +100,7 @@ fn cleans(alloc: Global) -> Result<[u32; 2], NodeFault> {
 
 #[test]
 fn a_tick_cleans_what_is_closed(rt: HostRuntime) -> Result<(), Fail> {
-    assert_eq!(rt; cleans(rt.alloc())?, [0, 1]);
+    assert!(rt; cleans(rt.alloc()) == Ok([0, 1]));
     Ok(())
 }
 
@@ -116,7 +116,7 @@ fn looks(alloc: Global) -> Result<[Result<u32, NodeFault>; 2], NodeFault> {
 #[test]
 fn a_tick_looks_only_for_known_logs(rt: HostRuntime) -> Result<(), Fail> {
     let failed = NodeFault::Register(RegisterFault::Failed);
-    assert_eq!(rt; looks(rt.alloc())?, [Ok(0), Err(failed)]);
+    assert!(rt; looks(rt.alloc()) == Ok([Ok(0), Err(failed)]));
     Ok(())
 }
 
@@ -131,7 +131,7 @@ fn asks(alloc: Global) -> Result<usize, NodeFault> {
 
 #[test]
 fn a_lost_node_asks_all_others(rt: HostRuntime) -> Result<(), Fail> {
-    assert_eq!(rt; asks(rt.alloc())?, 2);
+    assert!(rt; asks(rt.alloc()) == Ok(2));
     Ok(())
 }
 
@@ -149,7 +149,7 @@ fn takes_places(alloc: Global) -> Result<([u32; 3], bool), NodeFault> {
 
 #[test]
 fn a_node_takes_a_place_once_it_is_rebuilt(rt: HostRuntime) -> Result<(), Fail> {
-    assert_eq!(rt; takes_places(rt.alloc())?, ([0, 1, 0], true));
+    assert!(rt; takes_places(rt.alloc()) == Ok(([0, 1, 0], true)));
     Ok(())
 }
 
@@ -166,7 +166,7 @@ fn refused(alloc: Global) -> Result<[Option<NodeFault>; 3], NodeFault> {
 #[test]
 fn a_node_whose_disk_failed_has_to_be_loaded_again(rt: HostRuntime) -> Result<(), Fail> {
     let again = Some(NodeFault::NeedsLoad);
-    assert_eq!(rt; refused(rt.alloc())?, [Some(NodeFault::Disk), again, again]);
+    assert!(rt; refused(rt.alloc()) == Ok([Some(NodeFault::Disk), again, again]));
     Ok(())
 }
 
@@ -182,6 +182,6 @@ fn drawn_again(alloc: Global) -> Result<(Option<NodeFault>, u32), NodeFault> {
 
 #[test]
 fn a_format_that_fails_has_drawn(rt: HostRuntime) -> Result<(), Fail> {
-    assert_eq!(rt; drawn_again(rt.alloc())?, (Some(NodeFault::Disk), 2));
+    assert!(rt; drawn_again(rt.alloc()) == Ok((Some(NodeFault::Disk), 2)));
     Ok(())
 }
