@@ -11,5 +11,4 @@ pub mod Holding
 mod Numbers
 mod Sound
 mod Told
-mod Replying
 pub mod Bounded

@@ -1,6 +1,6 @@
 use Rattle.std.proofs.Common.{arith, subst, sym}
 use Rattle.ld_msg.specs.Bounds.{AreKept}
-use Rattle.ld_recovery.proofs.Replying.{to_two, no_entries}
+use Rattle.ld_tests_protocol.proofs.Replying.{to_two, no_entries}
 use Rattle.ld_tests_protocol.proofs.recovery.nothing.Goals as goal
 
 pub returns : goal.returns

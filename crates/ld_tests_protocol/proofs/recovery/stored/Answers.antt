@@ -1,5 +1,5 @@
 use Rattle.std.proofs.Common.{arith}
-use Rattle.ld_recovery.proofs.Replying.{to_two}
+use Rattle.ld_tests_protocol.proofs.Replying.{to_two}
 use Rattle.ld_tests_protocol.proofs.recovery.stored.Goals as goal
 
 pub returns : goal.returns

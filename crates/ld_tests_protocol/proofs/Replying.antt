@@ -1,4 +1,4 @@
--- The replies that tests send.
+-- The replies that tests of recoveries send.
 use Rattle.std.proofs.Common.{◌≡◌, ◌≤◌, ◌<◌, ◌-◌, ◌^◌, ℕ, false, List, [], subst, sym, ◌∙◌, arith}
 use Rattle.ld_lsn.specs.Number.{numbered, epoch_of, home_epoch, last_esn}
 use Rattle.ld_ids.specs.Id.{IsNode}
@@ -6,7 +6,7 @@ use Rattle.ld_msg.specs.declared.msg.Who.TheVariants as whos
 use Rattle.ld_msg.specs.declared.msg.Summary.{Summary}
 use Rattle.ld_msg.specs.declared.msg.Entry.{Entry}
 use Rattle.ld_msg.specs.Bounds.{ToSequencer, IsSummary, IsPage}
-use Rattle.ld_recovery.proofs.Numbers.{home_is}
+use Rattle.ld_node_bounds.proofs.Numbers.{home_is}
 
 pub to_two : (n : ℕ) → IsNode n → ToSequencer (whos.Node n) (whos.Sequencer 2)
 to_two n h = (h, (omega arith, omega arith))
@@ -22,7 +22,7 @@ summary_at s epoch ballot y h l m e = subst (λ (x : Summary). IsSummary (epoch_
 }
 
 home_in : (v esn : ℕ) → v ≡ numbered 1 esn → 1 ≤ esn → esn < 2 ^ 32 → home_epoch v ≡ 1
-home_in v esn h l m = let a = home_is v in omega (arith, a, h, l, m)
+home_in v esn h l m = let a = home_is v (omega (arith, h, l)) in omega (arith, a, h, l, m)
 
 pub no_entries : (from upto a b : ℕ) (es : List Entry) → from ≡ numbered 1 a → upto ≡ numbered 1 b → 1 ≤ a → a ≤ b → b < 2 ^ 32 → es ≡ [] → IsPage from upto es
 no_entries from upto a b es h k l m u e =
@@ -36,6 +36,3 @@ no_entries from upto a b es h k l m u e =
       entries = tt;
       rise = tt;
     }
-
-pub page_at : (from upto : ℕ) (es : List Entry) → from ≡ numbered 1 1 → upto ≡ numbered 1 last_esn → IsPage (numbered 1 1) (numbered 1 last_esn) es → IsPage from upto es
-page_at from upto es h k p = subst (λ (f : ℕ). IsPage f upto es) (sym h) (subst (λ (u : ℕ). IsPage (numbered 1 1) u es) (sym k) p)
