@@ -1,6 +1,6 @@
 -- The replies that tests of recoveries send.
 use Rattle.std.proofs.Common.{◌≡◌, ◌≤◌, ◌<◌, ◌-◌, ◌^◌, ℕ, false, List, [], subst, sym, ◌∙◌, arith}
-use Rattle.ld_lsn.specs.Number.{numbered, epoch_of, home_epoch, last_esn}
+use Rattle.ld_lsn.specs.Number.{numbered, epoch_of, home_epoch}
 use Rattle.ld_ids.specs.Id.{IsNode}
 use Rattle.ld_msg.specs.declared.msg.Who.TheVariants as whos
 use Rattle.ld_msg.specs.declared.msg.Summary.{Summary}
