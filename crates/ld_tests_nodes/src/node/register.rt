@@ -165,8 +165,12 @@ fn refused(alloc: Global) -> Result<[Option<NodeFault>; 3], NodeFault> {
 
 #[test]
 fn a_node_whose_disk_failed_has_to_be_loaded_again(rt: HostRuntime) -> Result<(), Fail> {
-    let again = Some(NodeFault::NeedsLoad);
-    assert!(rt; refused(rt.alloc()) == Ok([Some(NodeFault::Disk), again, again]));
+    let faults = [
+        Some(NodeFault::Disk),
+        Some(NodeFault::NeedsLoad),
+        Some(NodeFault::NeedsLoad),
+    ];
+    assert!(rt; refused(rt.alloc()) == Ok(faults));
     Ok(())
 }
 
