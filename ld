@@ -5,7 +5,7 @@ set -u
 top=$(cd "$(dirname "${BASH_SOURCE[0]}")" && pwd) || exit 1
 program=$top/crates/ld/out/ld
 is_current() {
-  [ -x "$program" ] && [ -z "$(find "$top/crates" "$top/crates.txt" -path '*/out' -prune -o \
+  [ -x "$program" ] && [ -z "$(find "$top/crates" "$top/crates.txt" \( -path '*/out' -o -path '*/ld_tests_*' \) -prune -o \
     \( -name '*.rt' -o -name '*.antt' -o -name crates.txt \) -newer "$program" -print -quit)" ]
 }
 
@@ -21,7 +21,7 @@ say_progress() {
 
 prove_and_build() {
   local made=0
-  crates=$(grep -c '^ld' "$top/crates.txt") said= began=$SECONDS begin= end=$'\n'
+  crates=$(grep '^ld' "$top/crates.txt" | grep -vc '^ld_tests_') said= began=$SECONDS begin= end=$'\n'
   if [ -t 2 ]; then begin=$'\r\e[K' end=; fi
   echo "ld: proving and building the program: some minutes, or an hour where nothing is proved on this machine yet" >&2
   # `rt run` also runs what it built: on the stored run, whose output is of no use here
