@@ -40,7 +40,7 @@ pub fn keep_entry(
     keep(alloc, plain, Op::Accept { log, lng: 0, entry }, at)
 }
 
-/// An epoch is closed by epoch 3, without a trim, with its bridge at a place and with or without a loss behind it.
+/// An epoch is closed under ballot 2, without a trim, with its bridge at a place and with or without a loss behind it.
 pub fn keep_close(
     alloc: Global,
     plain: &mut Plain,
@@ -50,7 +50,7 @@ pub fn keep_close(
     loss: bool,
 ) -> Result<(), NoMemory> {
     let summary = Summary {
-        ballot: 3,
+        ballot: 2,
         lng: 0,
         trim: Lsn::from_u64(0),
         end,
