@@ -1,44 +1,19 @@
 // Hosts whose disks fail and crash, beside a register on a disk of its own.
-ghost use Rattle.std.specs.Prelude.{◌≡◌, ◌≤◌, IfOk};
+ghost use Rattle.std.specs.Prelude.{◌≤◌, IfOk};
 ghost use Rattle.ld_msg.specs.Bounds.{IsMessage, IsSummary, Fits};
 ghost use Rattle.ld_msg.specs.declared.msg.Who.TheVariants as whos;
 ghost use Rattle.ld_register.specs.Bounds.{IsSpec};
 
+use crate::node::samples::{log_of, new_register, node_of};
 use ld_config::{Config, Specs};
-use ld_disk::MemDisk;
 use ld_host::{Formatted, Host, Hosts, Kept, Status};
-use ld_ids::{LogId, NoMemory, NodeId, NodeSet, Payload, Spec};
+use ld_ids::{NoMemory, NodeSet, Payload, Spec};
 use ld_lsn::Lsn;
 use ld_msg::{Body, Msg, Summary, What, Who};
-use ld_register::{DiskRegister, Register};
+use ld_register::Register;
 use ld_schedule::Picture;
 use std::alloc::Global;
 use std::test::Fail;
-
-fn log_of(number: u32) -> Result<LogId, NoMemory>
-    ensures { IfOk result (λ log. log ≡ number) }
-{
-    match LogId::new(number) {
-        Some(log) => Ok(log),
-        None => Err(NoMemory),
-    }
-}
-
-fn node_of(number: u8) -> Result<NodeId, NoMemory>
-    ensures { IfOk result (λ node. node ≡ number) }
-{
-    match NodeId::new(number) {
-        Some(node) => Ok(node),
-        None => Err(NoMemory),
-    }
-}
-
-fn new_register(alloc: Global) -> Result<DiskRegister<MemDisk>, NoMemory> {
-    match MemDisk::new(alloc) {
-        Ok(disk) => Ok(DiskRegister::new(alloc, disk)),
-        Err(_) => Err(NoMemory),
-    }
-}
 
 /// Three nodes, and log 1 on the nodes 2 and 3.
 fn config(alloc: Global) -> Result<Config, NoMemory> {

@@ -1,6 +1,6 @@
 // A node on a disk in memory: what it answers to messages, and what is there after a load.
 mod register;
-mod samples;
+pub(crate) mod samples;
 
 ghost use Rattle.std.specs.Prelude.{IfOk};
 ghost use Rattle.ld_msg.specs.Bounds.{IsMessage, Fits};
