@@ -11,7 +11,7 @@ use ld_lsn::Lsn;
 use std::marker::Model;
 
 /// Whether an append is stored on enough nodes.
-#[derive(Clone, Copy, Debug, PartialEq, Eq)]
+#[derive(Clone, Copy)]
 pub enum Progress {
     /// It is.
     Done,

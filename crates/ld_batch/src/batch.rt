@@ -11,7 +11,7 @@ use std::alloc::Global;
 use std::marker::Model;
 
 /// Messages that go into one record, up to 1,024 of them and 65,535 bytes.
-#[derive(Debug, Drop)]
+#[derive(Drop)]
 pub struct Batch {
     /// Their count, and the length and the bytes of each.
     bytes: Vec<u8>,

@@ -10,7 +10,7 @@ use std::alloc::Global;
 use std::marker::Model;
 
 /// Messages, in order: any number of them, each of any length.
-#[derive(Debug, Drop)]
+#[derive(Drop)]
 pub struct Messages {
     list: Vec<Payload>,
     /// How many bytes their batch has.
@@ -112,20 +112,5 @@ impl Messages {
             list,
             packed_len: self.packed_len,
         })
-    }
-}
-
-impl PartialEq for Messages {
-    ghost use Rattle.std.specs.Prelude.{◌==◌};
-    ghost use Rattle.std.specs.Cmp.Lexicographic.{pointwise};
-    ghost use Rattle.std.proofs.Common.{rules};
-    ghost use Rattle.std.specs.Cmp.Rules.{comparing};
-
-    ghost eq = { pointwise (pointwise ◌==◌) };
-
-    ghost laws = { Prim.search (comparing, rules) };
-
-    fn eq(&self, other: &Messages) -> bool {
-        self.list == other.list
     }
 }

@@ -15,7 +15,7 @@ use ld_io::Source;
 pub const LONGEST: usize = 200_000;
 
 /// How a line ends.
-#[derive(Clone, Copy, Debug, PartialEq, Eq)]
+#[derive(Clone, Copy)]
 pub enum Ending {
     /// With the byte that ends a line.
     Line,

@@ -81,7 +81,7 @@ impl Status {
 }
 
 /// Why a replay stops before the end of its input.
-#[derive(Clone, Copy, Debug, PartialEq, Eq)]
+#[derive(Clone, Copy)]
 pub enum Stop {
     BadSchedule { line: u64, place: u64 },
     NoMemory,

@@ -7,7 +7,7 @@ use ld_transcript::Line;
 use std::alloc::Global;
 
 /// What a call writes and sends, beside what it changes.
-#[derive(Debug, Drop)]
+#[derive(Drop)]
 pub struct Outcome {
     /// Its lines of the transcript, in their order. None of them is a message's.
     pub lines: Vec<Line>,

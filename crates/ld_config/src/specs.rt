@@ -6,7 +6,7 @@ use std::alloc::Global;
 use std::marker::Model;
 
 /// What is said of each log, in the order of the text.
-#[derive(Debug, Drop)]
+#[derive(Drop)]
 pub struct Specs {
     specs: Vec<Spec>,
 }

@@ -14,7 +14,7 @@ pub struct Page<'a> {
 }
 
 /// What becomes of a page.
-#[derive(Clone, Copy, Debug, PartialEq, Eq)]
+#[derive(Clone, Copy)]
 pub enum Added {
     /// It is taken, and the node is to be asked on from this number.
     Ask(Lsn),

@@ -9,7 +9,7 @@ ghost use Rattle.ld_disk.specs.Plain.{Plain, after_call, succeeds, after_read, r
 use ld_io::{Failed, NoMemory};
 
 /// What a crash leaves of the bytes written since the last successful sync, in a disk in memory.
-#[derive(Clone, Copy, Debug, PartialEq, Eq)]
+#[derive(Clone, Copy, PartialEq, Eq)]
 pub enum Picture {
     /// None of these writes was made.
     Old,
@@ -20,7 +20,7 @@ pub enum Picture {
 }
 
 /// What a disk in memory is told to do. A count of 1 is the next call, and 0 none.
-#[derive(Clone, Copy, Debug, PartialEq, Eq)]
+#[derive(Clone, Copy)]
 pub enum Fault {
     /// That writing call fails.
     FailAt(u64),

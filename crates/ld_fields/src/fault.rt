@@ -4,7 +4,7 @@ ghost use Rattle.std.specs.Prelude.{◌≡◌};
 use ld_ids::NoMemory;
 
 /// Why a field was not read.
-#[derive(Clone, Copy, Debug, PartialEq, Eq)]
+#[derive(Clone, Copy)]
 pub enum FieldFault {
     /// The first field that is cut off or out of its range begins at this place, or else the first byte that is too
     /// many stands there.

@@ -1,7 +1,7 @@
 // The forms of the lines of a schedule.
 
 /// How the line of an event is spelt.
-#[derive(Clone, Copy, Debug, PartialEq, Eq)]
+#[derive(Clone, Copy)]
 pub struct Form {
     /// The event's word, which begins the line.
     pub word: &'static str,

@@ -28,7 +28,7 @@ pub enum Kept {
 }
 
 /// How a format ends.
-#[derive(Debug, Drop)]
+#[derive(Drop)]
 pub enum Formatted {
     /// The load before it didn't succeed, and nothing was drawn.
     NotLoaded(Kept),

@@ -7,7 +7,7 @@ use std::alloc::Global;
 use std::marker::Model;
 
 /// What an append carries.
-#[derive(Debug, Drop)]
+#[derive(Drop)]
 pub struct Payload {
     bytes: Vec<u8>,
 }

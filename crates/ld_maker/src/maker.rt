@@ -10,7 +10,7 @@ use ld_schedule::Event;
 use std::alloc::Global;
 
 /// What makes the events behind the first seven, one at a time.
-#[derive(Clone, Copy, Debug, PartialEq, Eq)]
+#[derive(Clone, Copy)]
 pub struct Maker {
     /// The state that the next draw begins with.
     state: u64,

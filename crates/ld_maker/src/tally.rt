@@ -5,7 +5,7 @@ ghost use Rattle.ld_maker.specs.Tally.{HasRoom, no_lines, more_lines};
 use ld_transcript::{GapKind, Line};
 
 /// How many lines of some words there were: appended, acked and record, and the gap lines by the word behind the reader.
-#[derive(Clone, Copy, Debug, PartialEq, Eq)]
+#[derive(Clone, Copy)]
 pub struct Tally {
     pub appended: u128,
     pub acked: u128,

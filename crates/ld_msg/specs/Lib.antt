@@ -1,7 +1,6 @@
 pub mod Choice
 pub mod Digest
 pub mod Reading
-pub mod Same
 pub mod Network
 pub mod Reader
 pub mod Register

@@ -7,7 +7,7 @@ use std::alloc::Global;
 use std::marker::Model;
 
 /// The entries of a page, their numbers rising.
-#[derive(Debug, Drop)]
+#[derive(Drop)]
 pub struct Entries {
     list: Vec<Entry>,
 }
@@ -84,18 +84,5 @@ impl Entries {
             list.push(one.copy(alloc)?)?;
         }
         Ok(Entries { list })
-    }
-}
-
-impl PartialEq for Entries {
-    ghost use Rattle.std.specs.Cmp.Lexicographic.{pointwise};
-    ghost use Rattle.ld_msg.specs.Same.{is_same_entry, entries_per};
-
-    ghost eq = { pointwise is_same_entry };
-
-    ghost laws = { entries_per };
-
-    fn eq(&self, other: &Entries) -> bool {
-        self.list == other.list
     }
 }

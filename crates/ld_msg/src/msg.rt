@@ -9,7 +9,7 @@ use ld_lsn::Lsn;
 use std::alloc::Global;
 
 /// Who sends or gets a message of a log.
-#[derive(Clone, Copy, Debug, PartialEq, Eq)]
+#[derive(Clone, Copy)]
 pub enum Who {
     /// A node.
     Node(NodeId),
@@ -33,7 +33,7 @@ impl Who {
 }
 
 /// What stands under a number.
-#[derive(Debug, Drop, PartialEq)]
+#[derive(Drop)]
 pub enum What {
     /// A record.
     Rec(Payload),
@@ -76,7 +76,7 @@ impl What {
 }
 
 /// What a node holds under a number, and the epoch of the sequencer that sent it.
-#[derive(Debug, Drop, PartialEq)]
+#[derive(Drop)]
 pub struct Entry {
     pub number: Lsn,
     pub ballot: u32,
@@ -98,7 +98,7 @@ impl Entry {
 
 /// How an epoch was closed: by which sequencer, its trim point then, where its bridge stands, and whether the plan said what
 /// is lost.
-#[derive(Clone, Copy, Debug, PartialEq, Eq)]
+#[derive(Clone, Copy)]
 pub struct Summary {
     pub ballot: u32,
     pub lng: u32,
@@ -108,7 +108,7 @@ pub struct Summary {
 }
 
 /// What a message says. The ballot of a message between a sequencer and a node is the sequencer's epoch.
-#[derive(Debug, Drop, PartialEq)]
+#[derive(Drop)]
 pub enum Body {
     /// Store this under the number.
     Store {
@@ -324,7 +324,7 @@ impl Body {
 }
 
 /// A message of a log.
-#[derive(Debug, Drop, PartialEq)]
+#[derive(Drop)]
 pub struct Msg {
     pub from: Who,
     pub to: Who,

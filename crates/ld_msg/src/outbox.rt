@@ -7,7 +7,7 @@ use std::alloc::Global;
 use std::marker::Model;
 
 /// What a sequencer or a reader sends, in the order of sending.
-#[derive(Debug, Drop)]
+#[derive(Drop)]
 pub struct Outbox {
     list: Vec<Msg>,
 }
@@ -95,7 +95,7 @@ impl Outbox {
 }
 
 /// What a node answers, in the order of sending.
-#[derive(Debug, Drop)]
+#[derive(Drop)]
 pub struct Replies {
     list: Vec<Msg>,
 }

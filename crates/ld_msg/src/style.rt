@@ -1,7 +1,7 @@
 // How a reader reads.
 
 /// How a reader gets payloads and gives them.
-#[derive(Clone, Copy, Debug, PartialEq, Eq)]
+#[derive(Clone, Copy)]
 pub enum Style {
     /// Each node sends each payload that it has.
     EachCopy,

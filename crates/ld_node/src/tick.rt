@@ -22,7 +22,7 @@ use ld_register::Register;
 use std::alloc::Global;
 
 /// What a tick made a node do for a log.
-#[derive(Debug, Drop)]
+#[derive(Drop)]
 pub enum Ticked {
     /// This epoch of the log, which is closed in the register, is clean here now.
     Cleaned(u32),

@@ -8,7 +8,7 @@ use ld_msg::{Entries, Entry, Summary};
 use std::marker::Model;
 
 /// The epoch of each log that has one, the logs rising.
-#[derive(Debug, Drop)]
+#[derive(Drop)]
 pub struct Epochs {
     list: Vec<(LogId, u32)>,
 }
@@ -38,7 +38,7 @@ impl Epochs {
 }
 
 /// A change of a node's plain state, as one record of its journal.
-#[derive(Debug, Drop)]
+#[derive(Drop)]
 pub enum Op {
     /// The store is formatted under a generation; what the logs' epochs held so far is lost here.
     Format {

@@ -15,14 +15,14 @@ use ld_msg::{Entry, What};
 use std::marker::Model;
 
 /// Where a payload stands on a disk: the place of its first byte, and how many bytes it has.
-#[derive(Clone, Copy, Debug, PartialEq, Eq)]
+#[derive(Clone, Copy)]
 pub struct Place {
     pub at: u64,
     pub len: u64,
 }
 
 /// What stands under a number.
-#[derive(Clone, Copy, Debug)]
+#[derive(Clone, Copy)]
 pub(crate) enum Held {
     /// A record, whose payload stands there.
     Rec(Place),
@@ -38,7 +38,7 @@ pub(crate) enum Held {
 
 /// What an index holds under a number, and the epoch of the sequencer that sent it. Contracts see it as an entry whose
 /// payload is the places of its bytes.
-#[derive(Debug, Drop)]
+#[derive(Drop)]
 pub struct Pointed {
     number: Lsn,
     ballot: u32,

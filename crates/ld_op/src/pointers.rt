@@ -7,7 +7,7 @@ use std::alloc::Global;
 use std::marker::Model;
 
 /// The entries of a page, their numbers rising, with the places of payloads in place of their bytes.
-#[derive(Debug, Drop)]
+#[derive(Drop)]
 pub struct Pointers {
     list: Vec<Pointed>,
 }

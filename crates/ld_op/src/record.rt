@@ -6,7 +6,7 @@ use crate::Op;
 
 /// A record of a node's journal. Since the second version of journals a format says it, and a close says whether
 /// something is lost; a journal of the first is of the second from a mark on.
-#[derive(Debug, Drop)]
+#[derive(Drop)]
 pub enum Record {
     /// An op, as it is written now.
     Now(Op),

@@ -5,7 +5,7 @@ ghost use Rattle.ld_op.specs.Records.{is_format, is_clean, is_blank, is_first, o
 use crate::{Op, Record};
 
 /// The version of a journal, by the records that stand in it.
-#[derive(Clone, Copy, Debug, PartialEq, Eq)]
+#[derive(Clone, Copy, Debug)]
 pub enum Version {
     /// None stands in it.
     Blank,

@@ -8,7 +8,7 @@ use std::alloc::Global;
 use std::marker::Model;
 
 /// What is to stand under a number.
-#[derive(Debug, Drop)]
+#[derive(Drop)]
 pub struct Item {
     pub number: Lsn,
     pub what: What,
@@ -23,7 +23,7 @@ impl Model for Item {
 }
 
 /// What is to stand under the numbers of a plan, in their order.
-#[derive(Debug, Drop)]
+#[derive(Drop)]
 pub struct Items {
     list: Vec<Item>,
 }
@@ -80,7 +80,7 @@ impl Items {
 
 /// How an epoch is to be closed: its trim as it was found, its last known good place, the place of its
 /// bridge, whether it says what is lost, and what is to stand under each number above the first two, the bridge last.
-#[derive(Debug, Drop)]
+#[derive(Drop)]
 pub struct Plan {
     pub trim: Lsn,
     pub lng: u32,

@@ -13,7 +13,7 @@ use std::alloc::Global;
 use std::marker::Model;
 
 /// What stands at a number of a log, or from a number on.
-#[derive(Debug, Drop, PartialEq)]
+#[derive(Drop)]
 pub enum Item {
     /// All up to this number is trimmed.
     Trim(Lsn),
@@ -77,7 +77,7 @@ pub enum Step {
 }
 
 /// An item, and the number from which it stands.
-#[derive(Debug, Drop)]
+#[derive(Drop)]
 pub struct Given {
     pub from: Lsn,
     pub item: Item,
@@ -94,7 +94,7 @@ impl Model for Given {
 }
 
 /// Items in the order of their numbers. None passes the last number that its reader wants.
-#[derive(Debug, Drop)]
+#[derive(Drop)]
 pub struct Items {
     list: Vec<Given>,
 }

@@ -26,7 +26,7 @@ use std::alloc::Global;
 use std::marker::Model;
 
 /// How a recovery ended, where it did.
-#[derive(Clone, Copy, Debug, PartialEq, Eq)]
+#[derive(Clone, Copy)]
 pub(crate) enum Ending {
     Goes,
     Done(Summary),

@@ -17,7 +17,7 @@ use ld_msg::{Body, Msg, Outbox, Summary, What, Who};
 use std::alloc::Global;
 
 /// The sequencer of an epoch of a log, as its messages name it.
-#[derive(Clone, Copy, Debug)]
+#[derive(Clone, Copy)]
 pub struct Sender {
     pub log: LogId,
     pub epoch: u32,
@@ -232,7 +232,7 @@ impl<'a> Left<'a> {
 }
 
 /// What all nodes of a set are told.
-#[derive(Clone, Copy, Debug)]
+#[derive(Clone, Copy)]
 pub enum Notice {
     /// How an epoch is closed.
     Clean { epoch: u32, summary: Summary },

@@ -2,7 +2,7 @@
 use ld_msg::Summary;
 
 /// Where a recovery stands.
-#[derive(Clone, Copy, Debug, PartialEq, Eq)]
+#[derive(Clone, Copy)]
 pub enum State {
     /// The nodes are asked for what they have.
     Sealing,
@@ -20,7 +20,7 @@ pub enum State {
 }
 
 /// What the register answered to a close.
-#[derive(Clone, Copy, Debug, PartialEq, Eq)]
+#[derive(Clone, Copy)]
 pub enum Answer {
     /// The epoch is closed.
     Taken,

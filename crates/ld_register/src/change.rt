@@ -34,7 +34,7 @@ const MOST_EXTRAS: u8 = 3;
 const GREATEST_LNG: u32 = u32::MAX - 1;
 
 /// A change of a register, as one record of its journal.
-#[derive(Clone, Copy, Debug)]
+#[derive(Clone, Copy)]
 pub(crate) enum Change {
     /// The log's next epoch is handed out, with what is fixed for it.
     Activate {

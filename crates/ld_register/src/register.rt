@@ -17,7 +17,7 @@ use std::alloc::Global;
 
 /// An epoch that was handed out, the last closed one, and what is fixed for the epoch behind that one, as a look at it
 /// shows.
-#[derive(Clone, Copy, Debug, PartialEq, Eq)]
+#[derive(Clone, Copy, PartialEq, Eq)]
 pub struct Grant {
     pub epoch: u32,
     pub lce: u32,
@@ -25,7 +25,7 @@ pub struct Grant {
 }
 
 /// A generation that was handed out, and the epoch of each log that has one.
-#[derive(Debug, Drop)]
+#[derive(Drop)]
 pub struct Drawn {
     pub gen_: u32,
     pub epochs: Epochs,
@@ -34,7 +34,7 @@ pub struct Drawn {
 /// A log's epoch, its last closed one, how many swaps of the log there were, the summary of the epoch that was asked for,
 /// where it is closed, and what is fixed for that epoch, as swaps left it; where it isn't handed out, what is fixed for the
 /// greatest one.
-#[derive(Clone, Copy, Debug, PartialEq, Eq)]
+#[derive(Clone, Copy)]
 pub struct View {
     pub epoch: u32,
     pub lce: u32,

@@ -21,7 +21,7 @@ use ld_transcript::Line;
 use std::alloc::Global;
 
 /// What an actor writes and sends, and how its drive ends by that, where it does.
-#[derive(Debug, Drop)]
+#[derive(Drop)]
 pub struct Heard {
     /// Its lines of the transcript, in their order. None of them is a message's.
     pub lines: Vec<Line>,

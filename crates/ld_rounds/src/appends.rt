@@ -27,7 +27,7 @@ use ld_io::Sink;
 use std::alloc::Global;
 
 /// What an append wrote and sent, and whether it found the window full.
-#[derive(Debug, Drop)]
+#[derive(Drop)]
 pub struct Appended {
     pub heard: Heard,
     pub is_full: bool,
@@ -118,7 +118,7 @@ fn again<A: Appends, O: Sink>(
 }
 
 /// The payloads that are still to be appended: one that found the window full is held, and comes first.
-#[derive(Debug, Drop)]
+#[derive(Drop)]
 pub struct Feed {
     held: Option<Payload>,
     is_over: bool,

@@ -7,7 +7,7 @@ use ld_wire::WireFault;
 use std::alloc::{AllocError, AllocFailed};
 
 /// Why a register refuses a sequencer.
-#[derive(Clone, Copy, Debug, PartialEq, Eq)]
+#[derive(Clone, Copy)]
 pub enum Refusal {
     /// A call of the outside failed.
     Failed,
@@ -18,7 +18,7 @@ pub enum Refusal {
 }
 
 /// How the drive of a sequencer or a reader ends.
-#[derive(Clone, Copy, Debug, PartialEq, Eq)]
+#[derive(Clone, Copy)]
 pub enum Ended {
     /// It is done.
     Done,

@@ -6,7 +6,7 @@ use ld_ids::{NoMemory, Payload};
 use std::alloc::Global;
 
 /// Why no payload is given.
-#[derive(Clone, Copy, Debug, PartialEq, Eq)]
+#[derive(Clone, Copy)]
 pub enum InputFault {
     /// The line, counted from 1, is the first one that is off, and this is the place in it.
     BadLine { line: u64, place: u64 },

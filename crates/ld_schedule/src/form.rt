@@ -17,7 +17,7 @@ use ld_lsn::Lsn;
 use std::alloc::Global;
 
 /// The first word of a line that names a node.
-#[derive(Clone, Copy, Debug, PartialEq, Eq)]
+#[derive(Clone, Copy)]
 pub enum NodeForm {
     Format,
     Tick,
@@ -30,7 +30,7 @@ pub enum NodeForm {
 }
 
 /// The first word of a line that names a sequencer or a reader.
-#[derive(Clone, Copy, Debug, PartialEq, Eq)]
+#[derive(Clone, Copy)]
 pub enum NameForm {
     Activate,
     Append,
@@ -45,7 +45,7 @@ pub enum NameForm {
 }
 
 /// The first word of a line that begins with the place of a message, a count or a log.
-#[derive(Clone, Copy, Debug, PartialEq, Eq)]
+#[derive(Clone, Copy)]
 pub enum CountForm {
     Deliver,
     Lose,
@@ -55,7 +55,7 @@ pub enum CountForm {
 }
 
 /// The first word of a line.
-#[derive(Clone, Copy, Debug, PartialEq, Eq)]
+#[derive(Clone, Copy)]
 pub enum Form {
     Node(NodeForm),
     Name(NameForm),

@@ -14,7 +14,7 @@ use ld_lsn::text::{same, split_at_byte};
 use std::alloc::Global;
 
 /// A replication factor, 1 to 16.
-#[derive(Clone, Copy, Debug, PartialEq, Eq)]
+#[derive(Clone, Copy)]
 pub struct Factor {
     pub r: u8,
 }
@@ -37,7 +37,7 @@ impl Word for Factor {
 }
 
 /// A number of extras, 0 to 3.
-#[derive(Clone, Copy, Debug, PartialEq, Eq)]
+#[derive(Clone, Copy)]
 pub struct Extras {
     pub extras: u8,
 }

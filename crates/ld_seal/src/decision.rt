@@ -15,7 +15,7 @@ use ld_msg::{Body, Msg, Summary, What};
 use ld_op::{Place, Plain, Pointed};
 
 /// What a node makes of a sequencer's message, the first of these that holds.
-#[derive(Clone, Copy, Debug, PartialEq, Eq)]
+#[derive(Clone, Copy)]
 pub enum Decision {
     /// The epoch is lost here: under this generation, with this end where the epoch is clean here, else 0.
     Lost(u32, Lsn),

@@ -5,7 +5,7 @@ ghost use Rattle.ld_segment.specs.Slots.{second_counts, current, says_bytes};
 use byteorder::{BigEndian, ByteOrder};
 
 /// A slot: whether its gate is open, the number of the switch that wrote it, and the place of that switch's segment.
-#[derive(Clone, Copy, Debug, PartialEq, Eq)]
+#[derive(Clone, Copy)]
 pub struct Slot {
     pub open: bool,
     pub number: u64,

@@ -23,7 +23,7 @@ use std::alloc::Global;
 
 /// A close that is due: of the recovered epoch, with a summary. A short one counts only as long as its sequencer's epoch is
 /// the greatest that was handed out.
-#[derive(Clone, Copy, Debug, PartialEq, Eq)]
+#[derive(Clone, Copy)]
 pub(crate) struct Due {
     pub(crate) epoch: u32,
     pub(crate) summary: Summary,
@@ -31,7 +31,7 @@ pub(crate) struct Due {
 }
 
 /// What the register answered to a close.
-#[derive(Clone, Copy, Debug, PartialEq, Eq)]
+#[derive(Clone, Copy)]
 pub(crate) enum Tried {
     /// The epoch is closed, and this is shown of the one behind it.
     Taken(Spec),

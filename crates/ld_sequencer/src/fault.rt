@@ -34,7 +34,7 @@ pub enum SequencerFault {
 }
 
 /// Why the close of an epoch isn't known to be made.
-#[derive(Clone, Copy, Debug, PartialEq, Eq)]
+#[derive(Clone, Copy, PartialEq, Eq)]
 pub enum CloseFault {
     /// A call of the register failed: the close is made or not.
     Failed,

@@ -16,7 +16,7 @@ use ld_register::Register;
 use std::alloc::Global;
 
 /// What the register shows of a recovered epoch.
-#[derive(Clone, Copy, Debug, PartialEq, Eq)]
+#[derive(Clone, Copy)]
 pub(crate) enum Seen {
     /// It is closed with this summary, and this is shown of the epoch behind it.
     Closed(Summary, Spec),

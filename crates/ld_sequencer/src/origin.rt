@@ -2,7 +2,7 @@
 use ld_ids::{NodeSet, Spec};
 
 /// All nodes of the configuration, and what counts for an epoch of the log for which a register shows nothing.
-#[derive(Clone, Copy, Debug)]
+#[derive(Clone, Copy)]
 pub struct Origin {
     pub nodes: NodeSet,
     pub first: Spec,

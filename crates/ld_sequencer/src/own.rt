@@ -29,7 +29,7 @@ const PAYLOAD_LIMIT: usize = 65_535;
 const WINDOW_LIMIT: usize = 128;
 
 /// What a call of a sequencer learnt.
-#[derive(Clone, Copy, Debug, PartialEq, Eq)]
+#[derive(Clone, Copy)]
 pub struct Learnt {
     /// The append that was acknowledged.
     pub acked: Option<Lsn>,

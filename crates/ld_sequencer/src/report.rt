@@ -6,7 +6,7 @@ use crate::fault::{CloseFault, SequencerFault};
 use ld_lsn::Lsn;
 
 /// What a call of a sequencer did.
-#[derive(Clone, Copy, Debug, PartialEq, Eq)]
+#[derive(Clone, Copy, PartialEq, Eq)]
 pub struct Report {
     /// The append that was acknowledged.
     pub acked: Option<Lsn>,

@@ -17,7 +17,7 @@ use std::alloc::Global;
 
 /// A round of sending appends that aren't acknowledged, with the last known good place and the nodes that are lost for their
 /// epoch.
-#[derive(Clone, Copy, Debug)]
+#[derive(Clone, Copy)]
 pub(crate) struct Round {
     pub(crate) spec: Spec,
     pub(crate) epoch: u32,

@@ -32,17 +32,45 @@ fn sample(alloc: Global, node: NodeId, log: LogId) -> Result<Msg, NoMemory> {
     })
 }
 
-/// Whether a copy equals its message, and how many of a copied outbox of both equal the sender's other messages.
+/// Whether it is the sample, by its sender, its round, its last number and its record.
+fn is_sample(message: &Msg, node: NodeId) -> bool {
+    let is_sent = match message.from {
+        Who::Node(from) => from == node,
+        _ => false,
+    };
+    match &message.body {
+        Body::ReadPage {
+            round,
+            upto,
+            entries,
+            ..
+        } => { is_sent && *round == 3 && *upto == Lsn::new(1, 9) && is_page(entries.as_slice()) }
+        _ => false,
+    }
+}
+
+/// Whether these are a record and something else.
+fn is_page(entries: &[Entry]) -> bool {
+    match entries {
+        [one, other] => match (&one.what, &other.what) {
+            (What::Rec(payload), What::Hole) => payload.bytes() == b"hi".as_slice(),
+            _ => false,
+        },
+        _ => false,
+    }
+}
+
+/// Whether a copy is the sample, and how many of a copied outbox of both are it.
 fn copied(alloc: Global, node: NodeId, log: LogId) -> Result<(bool, usize, bool), NoMemory> {
     let message = sample(alloc, node, log)?;
     let copy = message.copy(alloc)?;
-    let same = copy == message;
+    let same = is_sample(&copy, node);
     let mut outbox = Outbox::empty(alloc);
     outbox.push(copy)?;
     outbox.push(message)?;
     let again = outbox.copy(alloc)?;
     let both = match again.as_slice() {
-        [one, other] => one == other && one.from == Who::Node(node),
+        [one, other] => is_sample(one, node) && is_sample(other, node),
         _ => false,
     };
     Ok((same, again.len(), both))

@@ -8,15 +8,40 @@ use ld_transcript::{GapKind, Line};
 use std::alloc::Global;
 use std::test::Fail;
 
-/// Whether the event is the one of this line.
-fn is_of(alloc: Global, event: Event, line: &[u8]) -> bool {
-    parse_line(alloc, line) == Ok(event)
+/// The bytes as one number, the last one least.
+fn number_of(bytes: &[u8]) -> u64 {
+    let mut number = 0u64;
+    for byte in bytes {
+        number = number.wrapping_mul(256).wrapping_add(*byte as u64);
+    }
+    number
+}
+
+/// Which event it is of those that are made here, and the number that it says: the payload's bytes, or the last to be read.
+fn told(event: &Event) -> (u8, u64) {
+    match event {
+        Event::Format { node } => (1, node.number() as u64),
+        Event::Append { payload, .. } => (2, number_of(payload.bytes())),
+        Event::Deliver { message } => (3, *message),
+        Event::Flow { most } => (4, *most as u64),
+        Event::Open { until, .. } => (5, until.value()),
+        Event::Down { node } => (6, node.number() as u64),
+        _ => (0, 0),
+    }
+}
+
+/// Whether the event is one of those, and the one of this line.
+fn is_of(alloc: Global, event: &Event, line: &[u8]) -> bool {
+    match parse_line(alloc, line) {
+        Ok(other) => told(event).0 != 0 && told(event) == told(&other),
+        Err(_) => false,
+    }
 }
 
 /// Whether the maker's next event is the one of this line.
 fn makes(alloc: Global, maker: &mut Maker, line: &[u8]) -> Result<bool, Fail> {
     let event = maker.next_event(alloc)?;
-    Ok(is_of(alloc, event, line))
+    Ok(is_of(alloc, &event, line))
 }
 
 // The lines were drawn by another program. For seed 1 the first value is 908834774, so it is 74 modulo 100.
@@ -46,7 +71,7 @@ fn begins(alloc: Global, line: &[u8]) -> Result<(usize, bool), Fail> {
     let mut count = 0usize;
     let mut is = false;
     for event in first_events(alloc)? {
-        is = is_of(alloc, event, line);
+        is = is_of(alloc, &event, line);
         count = count.saturating_add(1);
     }
     Ok((count, is))

@@ -18,7 +18,7 @@ use std::marker::Model;
 ///
 /// It holds the bytes that were fed and not taken. Once they were found to begin with what is no frame, it answers
 /// that fault for good.
-#[derive(Debug, Drop)]
+#[derive(Drop)]
 pub struct Decoder {
     buffer: Vec<u8>,
     /// How many bytes of the buffer are taken.

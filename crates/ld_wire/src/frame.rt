@@ -5,7 +5,7 @@ ghost use Rattle.ld_ids.specs.Bytes.{AreBytes};
 use std::marker::Model;
 
 /// The bytes of one message.
-#[derive(Debug, Drop)]
+#[derive(Drop)]
 pub struct Frame {
     bytes: Vec<u8>,
 }

@@ -3,7 +3,7 @@ ghost use Rattle.std.specs.Prelude.{◌≡◌};
 ghost use Rattle.ld_wire.specs.Roles.{may_be, sender, receiver, by_sequencer};
 
 /// Which actors may stand at one end of a message.
-#[derive(Clone, Copy, Debug, PartialEq, Eq)]
+#[derive(Clone, Copy)]
 pub enum Role {
     /// A node.
     Node,

@@ -21,6 +21,12 @@ exercise_shape = record (new_shape (codes "exercise")) {
   rules = option_rule (codes "seed") ∷ option_rule (codes "events") ∷ [];
 }
 
+-- the command that serves a node, as far as the node's files
+abbrev pub files_shape : Shape
+files_shape = record (new_shape (codes "node")) {
+  rules = option_rule (codes "id") ∷ option_rule (codes "config") ∷ option_rule (codes "store") ∷ option_rule (codes "register") ∷ [];
+}
+
 abbrev pub node_shape : Shape
 node_shape = record (new_shape (codes "node")) {
   rules = option_rule (codes "id") ∷ option_rule (codes "config") ∷ option_rule (codes "store") ∷ option_rule (codes "register")

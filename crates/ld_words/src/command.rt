@@ -6,7 +6,7 @@ use ld_lsn::Lsn;
 use ld_msg::Style;
 
 /// What the words ask for.
-#[derive(Debug, Drop)]
+#[derive(Drop)]
 pub enum Command {
     /// A schedule from standard input is run, and its transcript written to standard output.
     Replay,
@@ -22,7 +22,7 @@ pub enum Command {
 }
 
 /// What the words say of a node that serves.
-#[derive(Debug, Drop)]
+#[derive(Drop)]
 pub struct NodeWords {
     /// The node's number, which is among the configuration's nodes.
     pub id: NodeId,
@@ -41,7 +41,7 @@ pub struct NodeWords {
 }
 
 /// What the words say of a log that is appended to or read.
-#[derive(Debug, Drop)]
+#[derive(Drop)]
 pub struct LogWords {
     /// The configuration.
     pub config: Config,
@@ -56,7 +56,7 @@ pub struct LogWords {
 }
 
 /// What the words say of a log that is appended to, and how its lines are read.
-#[derive(Debug, Drop)]
+#[derive(Drop)]
 pub struct AppendWords {
     /// The log, and how it is reached.
     pub of: LogWords,
@@ -65,7 +65,7 @@ pub struct AppendWords {
 }
 
 /// What the words say of a log that is read, and which records of it.
-#[derive(Debug, Drop)]
+#[derive(Drop)]
 pub struct TailWords {
     /// The log, and how it is reached.
     pub of: LogWords,
@@ -78,7 +78,7 @@ pub struct TailWords {
 }
 
 /// The things of the outside that a command needs.
-#[derive(Debug, Drop)]
+#[derive(Drop)]
 pub struct Places {
     /// The file of the node's store, where the command is a node.
     pub store: Option<FileName>,

@@ -1,7 +1,7 @@
 // The commands and their arguments, as clap has them.
 ghost use Rattle.std.specs.Prelude.{◌≡◌, IfOk, MatchResult, false, map, string_bytes};
 ghost use Rattle.clap.specs.Words.{app_of, rule_of, subcommand_rows_of};
-ghost use Rattle.ld_words.specs.Grammar.{option_rule, flag_rule, exercise_shape, node_shape, log_shape, append_shape, tail_shape, ld_app, found, IsCommand};
+ghost use Rattle.ld_words.specs.Grammar.{option_rule, flag_rule, exercise_shape, files_shape, node_shape, log_shape, append_shape, tail_shape, ld_app, found, IsCommand};
 ghost use Rattle.ld_words.specs.Meaning.{IsNoCommand};
 ghost use Rattle.ld_words.specs.Refuses.{Refuses};
 
@@ -35,15 +35,22 @@ fn exercise_command<'a>(alloc: Global) -> Result<Command<'a>, AllocError>
         .arg(option(alloc, "events"))
 }
 
-/// The command that serves a node.
-fn node_command<'a>(alloc: Global) -> Result<Command<'a>, AllocError>
-    ensures { IfOk result (IsCommand node_shape) }
+/// The command that serves a node, as far as the node's files.
+fn files_command<'a>(alloc: Global) -> Result<Command<'a>, AllocError>
+    ensures { IfOk result (IsCommand files_shape) }
 {
     Command::new(alloc, "node")
         .arg(option(alloc, "id"))?
         .arg(option(alloc, "config"))?
         .arg(option(alloc, "store"))?
-        .arg(option(alloc, "register"))?
+        .arg(option(alloc, "register"))
+}
+
+/// The command that serves a node.
+fn node_command<'a>(alloc: Global) -> Result<Command<'a>, AllocError>
+    ensures { IfOk result (IsCommand node_shape) }
+{
+    files_command(alloc)?
         .arg(option(alloc, "port"))?
         .arg(option(alloc, "turns"))?
         .arg(flag(alloc, "format"))

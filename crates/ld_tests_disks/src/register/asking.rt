@@ -146,7 +146,7 @@ pub(crate) fn swap<R: Register>(alloc: Global, register: &mut R) -> Result<u32, 
 }
 
 /// What is shown of log 1 and its epoch 1.
-pub(crate) fn view<R: Register>(alloc: Global, register: &mut R) -> Result<View, RegisterFault> {
+fn view<R: Register>(alloc: Global, register: &mut R) -> Result<View, RegisterFault> {
     register.look(alloc, log_of(1)?, 1)
 }
 
@@ -157,15 +157,20 @@ pub(crate) fn shows<R: Register>(
     lce: u32,
     bits: u16,
 ) -> Result<bool, RegisterFault> {
-    let shown = view(alloc, register)?;
-    let expected = View {
-        epoch: 1,
-        lce,
-        swaps: 0,
-        summary: if lce == 1 { Some(summary(false)) } else { None },
-        spec: fixed_over(bits)?,
+    let view = view(alloc, register)?;
+    let is_fixed = view.spec == fixed_over(bits)?;
+    let is_closed = match view.summary {
+        Some(it) => {
+            lce == 1
+                && it.ballot == 2
+                && it.lng == 0
+                && it.trim.value() == 0
+                && it.end == 1
+                && !it.loss
+        }
+        None => lce == 0,
     };
-    Ok(shown == expected)
+    Ok(is_fixed && is_closed && view.epoch == 1 && view.lce == lce && view.swaps == 0)
 }
 
 /// Whether the set of this number is shown as fixed for an epoch of log 1.

@@ -2,7 +2,7 @@
 ghost use Rattle.std.specs.Prelude.{◌≤◌, length};
 
 use crate::register::asking::{
-    again, close, closes_before, fixes, grants, loss, new_register, shows, spec_over, swaps, view,
+    again, close, closes_before, fixes, grants, loss, new_register, shows, spec_over, swaps,
 };
 use ld_disk::{Disk, MemDisk};
 use ld_register::{DiskRegister, Register, RegisterFault};
@@ -107,7 +107,10 @@ fn a_close_with_another_loss_than_0_or_1_is_damaged(rt: HostRuntime) -> Result<(
         0, 0, 0, 0, 0, 0, 0, 0, 0, 0, 0, 1, 2, 0,
     ];
     let mut register = register_of(alloc, &bytes)?;
-    assert_eq!(rt; view(alloc, &mut register), Err(RegisterFault::Damaged(0)));
+    assert_eq!(rt;
+        loss(alloc, &mut register, 1),
+        Err(RegisterFault::Damaged(0))
+    );
     Ok(())
 }
 
@@ -120,7 +123,10 @@ fn an_activation_out_of_bounds_is_damaged(rt: HostRuntime) -> Result<(), Fail> {
             1, 0, 0, 0, 13, 19, 0, 0, 0, 1, 0, 0, 0, 2, 0, 5, r, extras, 0,
         ];
         let mut register = register_of(alloc, &bytes)?;
-        assert_eq!(rt; view(alloc, &mut register), Err(RegisterFault::Damaged(14)));
+        assert_eq!(rt;
+            loss(alloc, &mut register, 1),
+            Err(RegisterFault::Damaged(14))
+        );
     }
     Ok(())
 }
@@ -141,6 +147,9 @@ fn a_swap_is_read_where_it_changes_an_epoch(rt: HostRuntime) -> Result<(), Fail>
         1, 0, 0, 0, 11, 21, 0, 0, 0, 1, 0, 0, 0, 1, 1, 2, 0,
     ];
     let mut register = register_of(alloc, &bytes)?;
-    assert_eq!(rt; view(alloc, &mut register), Err(RegisterFault::Damaged(18)));
+    assert_eq!(rt;
+        loss(alloc, &mut register, 1),
+        Err(RegisterFault::Damaged(18))
+    );
     Ok(())
 }

@@ -14,10 +14,11 @@ use std::alloc::Global;
 use std::test::Fail;
 use std::vec;
 
-/// Whether the next message is this one, and spelled as the frame.
+/// Whether the next message and this one are spelled as the frame.
 fn is_next(alloc: Global, decoder: &mut Decoder, frame: &[u8], expected: &Msg) -> bool {
     match decoder.take(alloc) {
-        Ok(Some(message)) => message == *expected && is_spelled(alloc, &message, frame),
+        Ok(Some(message)) => is_spelled(alloc, expected, frame)
+            && is_spelled(alloc, &message, frame),
         Ok(None) => false,
         Err(_) => false,
     }
