@@ -14,4 +14,4 @@ returns c =
     let k1 = with_argument _ _ _ _ _ c.in_ok-arg.ensures (record { app = c.new.ensures.app; own = c.new.ensures.local }) id_is c.option.ensures.own in
     let k2 = with_argument _ _ _ _ _ c.in_ok-arg-2.ensures k1 config_is c.option-2.ensures.own in
     let k3 = with_argument _ _ _ _ _ c.in_ok-arg-3.ensures k2 store_is c.option-3.ensures.own in
-    IfOk-weaker c.arg-4.result _ _ (λ r h. with_argument _ _ r _ _ h k3 register_is c.option-4.ensures.own) c.arg-4.ensures
+    IfOk-weaker c.arg-4.result _ _ (λ r h. let k4 = with_argument _ _ r _ _ h k3 register_is c.option-4.ensures.own in k4) c.arg-4.ensures

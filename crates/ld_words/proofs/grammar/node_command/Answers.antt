@@ -12,4 +12,4 @@ returns c =
     let format_is : rule_of c.flag.result ≡ flag_rule (codes "format") = search rules in
     let k1 = with_argument _ _ _ _ _ c.in_ok-arg.ensures (c.in_ok-files_command.ensures) port_is c.option.ensures.own in
     let k2 = with_argument _ _ _ _ _ c.in_ok-arg-2.ensures k1 turns_is c.option-2.ensures.own in
-    IfOk-weaker c.arg-3.result _ _ (λ r h. with_argument _ _ r _ _ h k2 format_is c.flag.ensures.own) c.arg-3.ensures
+    IfOk-weaker c.arg-3.result _ _ (λ r h. let k3 = with_argument _ _ r _ _ h k2 format_is c.flag.ensures.own in k3) c.arg-3.ensures

@@ -14,4 +14,4 @@ returns c =
     let k1 = with_argument _ _ _ _ _ c.in_ok-arg.ensures (c.in_ok-log_command.ensures) from_is c.option.ensures.own in
     let k2 = with_argument _ _ _ _ _ c.in_ok-arg-2.ensures k1 until_is c.option-2.ensures.own in
     let k3 = with_argument _ _ _ _ _ c.in_ok-arg-3.ensures k2 one_copy_is c.flag.ensures.own in
-    IfOk-weaker c.arg-4.result _ _ (λ r h. with_argument _ _ r _ _ h k3 messages_is c.flag-2.ensures.own) c.arg-4.ensures
+    IfOk-weaker c.arg-4.result _ _ (λ r h. let k4 = with_argument _ _ r _ _ h k3 messages_is c.flag-2.ensures.own in k4) c.arg-4.ensures
