@@ -1,3 +1,4 @@
 pub mod Found
 pub mod OneCommand
 pub mod Commands
+pub mod Refused

@@ -16,8 +16,6 @@ use Rattle.ld_words.specs.declared.command.TailWords.{TailWords}
 use Rattle.ld_words.specs.declared.command.Places.{Places}
 use Rattle.ld_words.specs.declared.command.Command.{Command}
 use Rattle.ld_words.specs.declared.command.Command.TheVariants.{Replay, Exercise, Node, Append, Tail}
-use Rattle.ld_words.specs.declared.refusal.Refusal.{Refusal}
-use Rattle.ld_words.specs.Refuses.{Refuses}
 use Rattle.ld_words.specs.Meaning.{Is, IsNumber, IsLsn, IsConfig, Says, IsMember, IsLogOf, IsNodeWords, IsLogWords, IsAppendWords, IsRange, IsTailWords, IsNamed, Asks, ArePlacesOf, HasNoPlaces, AskForPlaces, AskForNoPlaces}
 
 -- an argument has one value
@@ -35,13 +33,25 @@ one_config name rows a b x y =
     let f : config_of_text (read y.text) ≡ Ok b = y.says.1 in
     cc
 
+-- the argument's text says the configuration that it is
+says_of : (rows : List Row) (text : Text) (config : Config) → Is (codes "config") rows text → IsConfig (codes "config") rows config → Says text config
+says_of rows text config is x = subst (λ t. Says t config) (one_text _ rows x.text text x.is is) x.says
+
 -- the arguments' number and configuration are those of each node that they say
-pub member_of : (rows : List Row) (id : ℕ) (text : Text) (config : Config) (n : NodeWords) → IsNumber (codes "id") rows 1 16 id
+member_of : (rows : List Row) (id : ℕ) (text : Text) (config : Config) (n : NodeWords) → IsNumber (codes "id") rows 1 16 id
     → Is (codes "config") rows text → Says text config → IsNodeWords rows n → IsMember id config
 member_of rows id text config n number is says words =
     let x = one_number _ rows 1 16 n.id id (omega arith) words.id number in
     let y = one_config _ rows n.config config words.config (record { text = text; is = is; says = says }) in
     subst (λ i. IsMember i config) x (subst (λ c. IsMember n.id c) y words.member)
+
+-- a text that says no configuration, and a number that is no node of its configuration, are of no node's words
+pub no_node_config : (rows : List Row) (text : Text) → Is (codes "config") rows text → (n : NodeWords) → IsNodeWords rows n → ((c : Config) → Says text c → ⊥) → ⊥
+no_node_config rows text is n words none = none n.config (says_of rows text n.config is words.config)
+
+pub no_member : (rows : List Row) (id : ℕ) (text : Text) (config : Config) → IsNumber (codes "id") rows 1 16 id → Is (codes "config") rows text
+    → Says text config → (n : NodeWords) → IsNodeWords rows n → (IsMember id config → ⊥) → ⊥
+no_member rows id text config number is says n words none = none (member_of rows id text config n number is says words)
 
 node_of : ℕ → Config → Text → Text → ℕ → ℕ → Bool → NodeWords
 node_of id config store register port turns format =
@@ -75,14 +85,12 @@ log_in rows log text config w number is says words =
     subst (λ l. IsLogOf l config) x (subst (λ c. IsLogOf w.log c) y words.known)
 
 -- a text that says no configuration, and a number that is no log of its configuration, are of no log's words
-pub no_config : (rows : List Row) (text : Text) (r : Refusal) → Is (codes "config") rows text → Refuses ((c : Config) → Says text c → ⊥) r
-    → Refuses ((w : LogWords) → IsLogWords rows w → ⊥) r
-no_config rows text r is none = λ other w words.
-    none other w.config (subst (λ t. Says t w.config) (one_text _ rows words.config.text text words.config.is is) words.config.says)
+pub no_log_config : (rows : List Row) (text : Text) → Is (codes "config") rows text → (w : LogWords) → IsLogWords rows w → ((c : Config) → Says text c → ⊥) → ⊥
+no_log_config rows text is w words none = none w.config (says_of rows text w.config is words.config)
 
-pub no_log : (rows : List Row) (log : ℕ) (text : Text) (config : Config) (r : Refusal) → IsNumber (codes "log") rows 1 65535 log
-    → Is (codes "config") rows text → Says text config → Refuses (IsLogOf log config → ⊥) r → Refuses ((w : LogWords) → IsLogWords rows w → ⊥) r
-no_log rows log text config r number is says none = λ other w words. none other (log_in rows log text config w number is says words)
+pub no_log : (rows : List Row) (log : ℕ) (text : Text) (config : Config) → IsNumber (codes "log") rows 1 65535 log → Is (codes "config") rows text
+    → Says text config → (w : LogWords) → IsLogWords rows w → (IsLogOf log config → ⊥) → ⊥
+no_log rows log text config number is says w words none = none (log_in rows log text config w number is says words)
 
 -- the arguments' first and last number are in the order of each range that they say
 pub first_of_range : (rows : List Row) (v first last : ℕ) → IsLsn (codes "from") rows v → IsRange rows first last → 1 ≤ v

@@ -71,12 +71,13 @@ impl Refusal {
                 "--log is {}, which isn't one of the configuration's logs",
                 log.number()
             ),
-            Refusal::Order => format!(in alloc; "--from is e0n0 or above --until"),
-            Refusal::Styles => format!(in alloc;
-                "--one-copy and --messages can't be asked for at once"
+            Refusal::Order => String::from_str(alloc, "--from is e0n0 or above --until"),
+            Refusal::Styles => String::from_str(
+                alloc,
+                "--one-copy and --messages can't be asked for at once",
             ),
-            Refusal::Unknown => format!(in alloc; "there is no such command"),
-            Refusal::NoMemory => format!(in alloc; "out of memory"),
+            Refusal::Unknown => String::from_str(alloc, "there is no such command"),
+            Refusal::NoMemory => String::from_str(alloc, "out of memory"),
         }
     }
 }

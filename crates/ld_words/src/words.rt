@@ -22,7 +22,6 @@ use ld_msg::Style;
 use std::alloc::Global;
 
 /// What the arguments say of a node.
-#[tactic(auto, using(crate::proofs::OneCommand::member_of))]
 fn node_words(alloc: Global, matches: &ArgMatches<'_>) -> Result<NodeWords, Refusal>
     ensures says { MatchResult result
         (IsNodeWords (rows_of (found_of matches.now)))

@@ -1,18 +1,60 @@
-use Rattle.std.proofs.Common.{rules, codes, ◌≡◌, Err}
+use Rattle.std.proofs.Common.{codes, sym, subst}
 use Rattle.clap.specs.Words.{rows_of, found_of}
-use Rattle.ld_words.specs.Meaning.{Is, IsNumber}
-use Rattle.ld_words.proofs.OneCommand.{no_config, no_log}
+use Rattle.ld_words.specs.Meaning.{IsLogWords, IsNumber, IsLogOf}
+use Rattle.ld_words.proofs.OneCommand.{no_log_config, no_log}
+use Rattle.ld_words.proofs.Refused.{refused_one, not_none}
 use Rattle.ld_words.proofs.words.log_words.Goals as goal
+
+pub returns-in_err-log-clause-says : goal.returns-in_err-log-clause-says
+returns-in_err-log-clause-says c =
+    refused_one c.from_residual.result c.in_err-log.field-0.0 (IsLogWords (rows_of (found_of c.args.matches.now))) _ c.from_residual.ensures.1 c.in_err-log.ensures
+    (λ w words none. none w.log words.log)
+
+pub returns-in_err-text-clause-says : goal.returns-in_err-text-clause-says
+returns-in_err-text-clause-says c =
+    refused_one c.from_residual-in_err-text.result c.in_err-text.field-0.0 (IsLogWords (rows_of (found_of c.args.matches.now))) _ c.from_residual-in_err-text.ensures.1 c.in_err-text.ensures
+    (λ w words none. not_none _ _ words.config.is none)
 
 pub returns-in_err-config-clause-says : goal.returns-in_err-config-clause-says
 returns-in_err-config-clause-says c =
-    let text_is : Is (codes "config") (rows_of (found_of c.args.matches.now)) c.in_ok-text.field-0.now = search rules in
-    let is : c.from_residual-in_err-config.result ≡ Err c.in_err-config.field-0.0 = search rules in
-    rw is (no_config _ _ _ text_is c.in_err-config.ensures.says)
+    refused_one c.from_residual-in_err-config.result c.in_err-config.field-0.0 (IsLogWords (rows_of (found_of c.args.matches.now))) _ c.from_residual-in_err-config.ensures.1 c.in_err-config.ensures.says
+    (no_log_config (rows_of (found_of c.args.matches.now)) c.in_ok-text.field-0.now c.in_ok-text.ensures)
 
 pub returns-in_err-log-2-clause-says : goal.returns-in_err-log-2-clause-says
 returns-in_err-log-2-clause-says c =
-    let number_is : IsNumber (codes "log") (rows_of (found_of c.args.matches.now)) 1 65535 c.in_ok-log.log = search rules in
-    let text_is : Is (codes "config") (rows_of (found_of c.args.matches.now)) c.in_ok-text.field-0.now = search rules in
-    let is : c.from_residual-in_err-log-2.result ≡ Err c.in_err-log-2.field-0.0 = search rules in
-    rw is (no_log _ _ _ c.in_ok-config.config _ number_is text_is c.in_ok-config.ensures.says c.in_err-log-2.ensures)
+    refused_one c.from_residual-in_err-log-2.result c.in_err-log-2.field-0.0 (IsLogWords (rows_of (found_of c.args.matches.now))) _ c.from_residual-in_err-log-2.ensures.1 c.in_err-log-2.ensures
+    (no_log (rows_of (found_of c.args.matches.now)) c.in_ok-log.log c.in_ok-text.field-0.now c.in_ok-config.config c.in_ok-log.ensures c.in_ok-text.ensures c.in_ok-config.ensures.says)
+
+pub returns-in_err-register-clause-says : goal.returns-in_err-register-clause-says
+returns-in_err-register-clause-says c =
+    refused_one c.from_residual-in_err-register.result c.in_err-register.field-0.0 (IsLogWords (rows_of (found_of c.args.matches.now))) _ c.from_residual-in_err-register.ensures.1 c.in_err-register.ensures
+    (λ w words none. not_none _ _ words.register none)
+
+pub returns-in_err-port-clause-says : goal.returns-in_err-port-clause-says
+returns-in_err-port-clause-says c =
+    refused_one c.from_residual-in_err-port.result c.in_err-port.field-0.0 (IsLogWords (rows_of (found_of c.args.matches.now))) _ c.from_residual-in_err-port.ensures.1 c.in_err-port.ensures
+    (λ w words none. none w.port words.port)
+
+pub returns-in_err-rounds-clause-says : goal.returns-in_err-rounds-clause-says
+returns-in_err-rounds-clause-says c =
+    refused_one c.from_residual-in_err-rounds.result c.in_err-rounds.field-0.0 (IsLogWords (rows_of (found_of c.args.matches.now))) _ c.from_residual-in_err-rounds.ensures.1 c.in_err-rounds.ensures
+    (λ w words none. none w.rounds words.rounds)
+
+pub returns : goal.returns
+returns c =
+    let log = subst (IsNumber (codes "log") (rows_of (found_of c.args.matches.now)) 1 65535) (sym c.in_ok-log-2.ensures.0) c.in_ok-log.ensures in
+    let known = subst (λ l. IsLogOf l c.in_ok-config.config) (sym c.in_ok-log-2.ensures.0) c.in_ok-log-2.ensures.1 in
+    record {
+      says = record {
+        config = record { text = c.in_ok-text.field-0.now; is = c.in_ok-text.ensures; says = c.in_ok-config.ensures.says };
+        log = log;
+        known = known;
+        register = c.in_ok-register.ensures;
+        port = c.in_ok-port.ensures;
+        rounds = c.in_ok-rounds.ensures;
+      };
+      bounds = record {
+        config = c.in_ok-config.ensures.bounds;
+        log = known.has;
+      };
+    }
