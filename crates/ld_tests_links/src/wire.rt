@@ -1,5 +1,6 @@
 // Frames as they are written down, and frames that go wrong.
 mod said;
+mod same;
 mod samples;
 
 ghost use Rattle.ld_msg.specs.Bounds.{IsMessage};

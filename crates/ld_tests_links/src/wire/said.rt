@@ -1,5 +1,6 @@
 // What a frame of each kind says, told by hand.
 use crate::link::copied;
+use crate::wire::same::is_same;
 use crate::wire::samples::{
     CLEAN, CLEAN_HERE, DIGEST_ASK, DIGEST_PAGE, LOST_HERE, LOST_HERE_READER, READ_ASK,
     READ_ASK_NODE, READ_ENDED, READ_ONE, READ_PAGE, READ_TRIM, READ_WAIT, RELEASE, SEALED_HERE,
@@ -14,11 +15,10 @@ use std::alloc::Global;
 use std::test::Fail;
 use std::vec;
 
-/// Whether the next message and this one are spelled as the frame.
+/// Whether the next message says the same as this one, and is spelled as the frame.
 fn is_next(alloc: Global, decoder: &mut Decoder, frame: &[u8], expected: &Msg) -> bool {
     match decoder.take(alloc) {
-        Ok(Some(message)) => is_spelled(alloc, expected, frame)
-            && is_spelled(alloc, &message, frame),
+        Ok(Some(message)) => is_same(&message, expected) && is_spelled(alloc, &message, frame),
         Ok(None) => false,
         Err(_) => false,
     }
