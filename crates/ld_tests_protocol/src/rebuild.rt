@@ -185,59 +185,104 @@ fn ask(
     Ok(out.len())
 }
 
+// How many others a wiped node asks at first, and once each of its epochs is closed, and whether it is full then.
+fn asked(
+    alloc: Global,
+    log: LogId,
+    node: NodeId,
+    set: &NodeSet,
+) -> Result<([usize; 3], bool), NoMemory> {
+    let mut plain = wiped(alloc, log)?;
+    let first = ask(alloc, &plain, node, log, set)?;
+    keep_close(alloc, &mut plain, log, 1, 2)?;
+    let second = ask(alloc, &plain, node, log, set)?;
+    keep_close(alloc, &mut plain, log, 2, 1)?;
+    let third = ask(alloc, &plain, node, log, set)?;
+    Ok(([first, second, third], is_full(&plain, log)))
+}
+
 #[test]
-fn a_wiped_node_asks_all_others_until_it_is_full(rt: HostRuntime) -> Result<(), Fail> {
-    let alloc = rt.alloc();
+fn a_wiped_node_asks_all_others(rt: HostRuntime) -> Result<(), Fail> {
     let log = LogId::new(1).expect(&rt, "a log");
     let one = NodeId::new(1).expect(&rt, "a node");
     let two = NodeId::new(2).expect(&rt, "a node");
     let three = NodeId::new(3).expect(&rt, "a node");
     let set = NodeSet::empty().with(one).with(two).with(three);
-    let mut plain = wiped(alloc, log)?;
-    assert_eq!(rt; ask(alloc, &plain, two, log, &set)?, 0);
-    'closes: for (epoch, end) in [(1, 2), (2, 1)] {
-        keep_close(alloc, &mut plain, log, epoch, end)?;
-        assert_eq!(rt; ask(alloc, &plain, two, log, &set)?, 2);
-        assert!(rt; !is_full(&plain, log));
-    }
-    'pages: for (clean, taken, full) in [
-        (false, b'n', false),
-        (true, b'r', true),
-        (true, b'n', true),
-    ] {
-        let msg = answer(log, one, two, page(alloc, clean)?);
-        assert_eq!(rt; takes(alloc, &mut plain, &msg)?, taken);
-        assert_eq!(rt; is_full(&plain, log), full);
-    }
+    assert!(rt; asked(rt.alloc(), log, two, &set)? == ([0, 2, 2], false));
     Ok(())
+}
+
+// A wiped node both of whose epochs are closed.
+fn closed(alloc: Global, log: LogId) -> Result<Plain, NoMemory> {
+    let mut plain = wiped(alloc, log)?;
+    keep_close(alloc, &mut plain, log, 1, 2)?;
+    keep_close(alloc, &mut plain, log, 2, 1)?;
+    Ok(plain)
+}
+
+// What it takes of a page, and whether it is full then.
+fn fills(alloc: Global, plain: &mut Plain, msg: &Msg) -> Result<(u8, bool), NoMemory> {
+    let taken = takes(alloc, plain, msg)?;
+    Ok((taken, is_full(plain, msg.log)))
+}
+
+// The same of a page of another node that isn't clean, of one that is, and of that once more.
+fn refilled(
+    alloc: Global,
+    log: LogId,
+    one: NodeId,
+    two: NodeId,
+) -> Result<[(u8, bool); 3], NoMemory> {
+    let mut plain = closed(alloc, log)?;
+    let open = answer(log, one, two, page(alloc, false)?);
+    let clean = answer(log, one, two, page(alloc, true)?);
+    Ok([
+        fills(alloc, &mut plain, &open)?,
+        fills(alloc, &mut plain, &clean)?,
+        fills(alloc, &mut plain, &clean)?,
+    ])
+}
+
+#[test]
+fn a_clean_page_refills_once(rt: HostRuntime) -> Result<(), Fail> {
+    let log = LogId::new(1).expect(&rt, "a log");
+    let one = NodeId::new(1).expect(&rt, "a node");
+    let two = NodeId::new(2).expect(&rt, "a node");
+    let all = refilled(rt.alloc(), log, one, two)?;
+    assert!(rt; all == [(b'n', false), (b'r', true), (b'n', true)]);
+    Ok(())
+}
+
+// The same of a page with a plug.
+fn plugged(alloc: Global, log: LogId, one: NodeId, two: NodeId) -> Result<(u8, bool), NoMemory> {
+    let mut plain = closed(alloc, log)?;
+    let msg = answer(log, one, two, page_of(alloc, true, What::Plug)?);
+    fills(alloc, &mut plain, &msg)
 }
 
 #[test]
 fn a_plug_is_refilled(rt: HostRuntime) -> Result<(), Fail> {
-    let alloc = rt.alloc();
     let log = LogId::new(1).expect(&rt, "a log");
     let one = NodeId::new(1).expect(&rt, "a node");
     let two = NodeId::new(2).expect(&rt, "a node");
-    let mut plain = wiped(alloc, log)?;
-    'closes: for (epoch, end) in [(1, 2), (2, 1)] {
-        keep_close(alloc, &mut plain, log, epoch, end)?;
-    }
-    let msg = answer(log, one, two, page_of(alloc, true, What::Plug)?);
-    assert_eq!(rt; takes(alloc, &mut plain, &msg)?, b'r');
-    assert!(rt; is_full(&plain, log));
+    assert!(rt; plugged(rt.alloc(), log, one, two)? == (b'r', true));
     Ok(())
+}
+
+// What a wiped node takes of a trim, and of it once more.
+fn trims(alloc: Global, log: LogId, one: NodeId, two: NodeId) -> Result<[u8; 2], NoMemory> {
+    let mut plain = wiped(alloc, log)?;
+    let msg = answer(log, one, two, trimmed());
+    let first = takes(alloc, &mut plain, &msg)?;
+    keep_trim(alloc, &mut plain, log)?;
+    Ok([first, takes(alloc, &mut plain, &msg)?])
 }
 
 #[test]
 fn a_trim_above_the_nodes_is_taken(rt: HostRuntime) -> Result<(), Fail> {
-    let alloc = rt.alloc();
     let log = LogId::new(1).expect(&rt, "a log");
     let one = NodeId::new(1).expect(&rt, "a node");
     let two = NodeId::new(2).expect(&rt, "a node");
-    let mut plain = wiped(alloc, log)?;
-    let msg = answer(log, one, two, trimmed());
-    assert_eq!(rt; takes(alloc, &mut plain, &msg)?, b't');
-    keep_trim(alloc, &mut plain, log)?;
-    assert_eq!(rt; takes(alloc, &mut plain, &msg)?, b'n');
+    assert_eq!(rt; trims(rt.alloc(), log, one, two)?, [b't', b'n']);
     Ok(())
 }

@@ -153,35 +153,50 @@ fn keep_close(alloc: Global, plain: &mut Plain, log: LogId) -> Result<(), NoMemo
     Ok(())
 }
 
+// What a node makes of a hole at the place 3 of epoch 1 at first, once it is sealed, and once it is trimmed; and of one at the place 4
+// before it has it, with it, and once the epoch is clean.
+fn stored(alloc: Global, log: LogId, node: NodeId) -> Result<[u8; 6], NoMemory> {
+    let mut plain = Plain::new(alloc);
+    let first = stores(&plain, log, node, 1, 3);
+    keep_seal(alloc, &mut plain, log)?;
+    let sealed = stores(&plain, log, node, 1, 3);
+    keep_trim(alloc, &mut plain, log)?;
+    let trimmed = stores(&plain, log, node, 1, 3);
+    let behind = stores(&plain, log, node, 2, 4);
+    keep_hole(alloc, &mut plain, log)?;
+    let again = stores(&plain, log, node, 2, 4);
+    keep_close(alloc, &mut plain, log)?;
+    let clean = stores(&plain, log, node, 3, 4);
+    Ok([first, sealed, trimmed, behind, again, clean])
+}
+
 #[test]
 fn stores_by_what_is_sealed_trimmed_stored_and_clean(rt: HostRuntime) -> Result<(), Fail> {
-    let alloc = rt.alloc();
     let log = LogId::new(1).expect(&rt, "a log");
     let node = NodeId::new(1).expect(&rt, "a node");
-    let mut plain = Plain::new(alloc);
-    assert_eq!(rt; stores(&plain, log, node, 1, 3), b'+');
-    keep_seal(alloc, &mut plain, log)?;
-    assert_eq!(rt; stores(&plain, log, node, 1, 3), b's');
-    keep_trim(alloc, &mut plain, log)?;
-    assert_eq!(rt; stores(&plain, log, node, 1, 3), b't');
-    assert_eq!(rt; stores(&plain, log, node, 2, 4), b'+');
-    keep_hole(alloc, &mut plain, log)?;
-    assert_eq!(rt; stores(&plain, log, node, 2, 4), b'=');
-    keep_close(alloc, &mut plain, log)?;
-    assert_eq!(rt; stores(&plain, log, node, 3, 4), b'c');
+    assert_eq!(rt;
+        stored(rt.alloc(), log, node)?,
+        [b'+', b's', b't', b'+', b'=', b'c']
+    );
     Ok(())
+}
+
+// What a node that has a plug makes of a plug, of a hole, and of a plug of another ballot.
+fn plugged(alloc: Global, log: LogId, node: NodeId) -> Result<[u8; 3], NoMemory> {
+    let mut plain = Plain::new(alloc);
+    keep_what(alloc, &mut plain, log, What::Plug)?;
+    Ok([
+        stores_what(&plain, log, node, 2, 4, What::Plug),
+        stores_what(&plain, log, node, 2, 4, What::Hole),
+        stores_what(&plain, log, node, 3, 4, What::Plug),
+    ])
 }
 
 #[test]
 fn a_plug_is_the_same_as_a_plug_alone(rt: HostRuntime) -> Result<(), Fail> {
-    let alloc = rt.alloc();
     let log = LogId::new(1).expect(&rt, "a log");
     let node = NodeId::new(1).expect(&rt, "a node");
-    let mut plain = Plain::new(alloc);
-    keep_what(alloc, &mut plain, log, What::Plug)?;
-    assert_eq!(rt; stores_what(&plain, log, node, 2, 4, What::Plug), b'=');
-    assert_eq!(rt; stores_what(&plain, log, node, 2, 4, What::Hole), b'+');
-    assert_eq!(rt; stores_what(&plain, log, node, 3, 4, What::Plug), b'+');
+    assert_eq!(rt; plugged(rt.alloc(), log, node)?, [b'=', b'+', b'+']);
     Ok(())
 }
 
@@ -212,36 +227,51 @@ fn compares(
     }
 }
 
+// Where a node that has the record `abc` from the place 100 of its disk on compares these: itself, others of its length, a shorter and a
+// longer one, and itself of another ballot.
+fn compared(alloc: Global, log: LogId, node: NodeId) -> Result<[u64; 5], NoMemory> {
+    let mut plain = Plain::new(alloc);
+    keep_record(alloc, &mut plain, log, b"abc", 100)?;
+    Ok([
+        compares(alloc, &plain, log, node, 2, b"abc")?,
+        compares(alloc, &plain, log, node, 2, b"xyz")?,
+        compares(alloc, &plain, log, node, 2, b"ab")?,
+        compares(alloc, &plain, log, node, 2, b"abcd")?,
+        compares(alloc, &plain, log, node, 3, b"abc")?,
+    ])
+}
+
 #[test]
 fn a_record_of_the_same_ballot_and_length_is_compared_where_it_stands(
     rt: HostRuntime,
 ) -> Result<(), Fail> {
-    let alloc = rt.alloc();
     let log = LogId::new(1).expect(&rt, "a log");
     let node = NodeId::new(1).expect(&rt, "a node");
-    let mut plain = Plain::new(alloc);
-    keep_record(alloc, &mut plain, log, b"abc", 100)?;
     // Behind the op's nine bytes, the entry's thirteen and the two of the payload's length.
-    assert_eq!(rt; compares(alloc, &plain, log, node, 2, b"abc")?, 124);
-    assert_eq!(rt; compares(alloc, &plain, log, node, 2, b"xyz")?, 124);
-    assert_eq!(rt; compares(alloc, &plain, log, node, 2, b"ab")?, 0);
-    assert_eq!(rt; compares(alloc, &plain, log, node, 2, b"abcd")?, 0);
-    assert_eq!(rt; compares(alloc, &plain, log, node, 3, b"abc")?, 0);
+    assert_eq!(rt; compared(rt.alloc(), log, node)?, [124, 124, 0, 0, 0]);
     Ok(())
+}
+
+// What a node makes of asks of the epoch 2 at first, of the epochs 1 to 3 once epoch 2 sealed it, and of epoch 3 once epoch 1 is clean.
+fn asked(alloc: Global, log: LogId, node: NodeId) -> Result<[u8; 5], NoMemory> {
+    let mut plain = Plain::new(alloc);
+    let first = asks(&plain, log, node, 2);
+    keep_seal(alloc, &mut plain, log)?;
+    let below = asks(&plain, log, node, 1);
+    let same = asks(&plain, log, node, 2);
+    let above = asks(&plain, log, node, 3);
+    keep_close(alloc, &mut plain, log)?;
+    let clean = asks(&plain, log, node, 3);
+    Ok([first, below, same, above, clean])
 }
 
 #[test]
 fn asks_by_the_greatest_seal(rt: HostRuntime) -> Result<(), Fail> {
-    let alloc = rt.alloc();
     let log = LogId::new(1).expect(&rt, "a log");
     let node = NodeId::new(1).expect(&rt, "a node");
-    let mut plain = Plain::new(alloc);
-    assert_eq!(rt; asks(&plain, log, node, 2), b'+');
-    keep_seal(alloc, &mut plain, log)?;
-    assert_eq!(rt; asks(&plain, log, node, 1), b's');
-    assert_eq!(rt; asks(&plain, log, node, 2), b'=');
-    assert_eq!(rt; asks(&plain, log, node, 3), b'+');
-    keep_close(alloc, &mut plain, log)?;
-    assert_eq!(rt; asks(&plain, log, node, 3), b'c');
+    assert_eq!(rt;
+        asked(rt.alloc(), log, node)?,
+        [b'+', b's', b'=', b'+', b'c']
+    );
     Ok(())
 }
