@@ -150,6 +150,21 @@ fn view<R: Register>(alloc: Global, register: &mut R) -> Result<View, RegisterFa
     register.look(alloc, log_of(1)?, 1)
 }
 
+/// Whether the epoch is closed as the tests close it, or isn't closed.
+fn is_closed(summary: Option<Summary>, closed: bool) -> bool {
+    match summary {
+        Some(it) => {
+            closed
+                && it.ballot == 2
+                && it.lng == 0
+                && it.trim.value() == 0
+                && it.end == 1
+                && !it.loss
+        }
+        None => !closed,
+    }
+}
+
 /// Whether this is shown of log 1 and its epoch 1, which is closed or not.
 pub(crate) fn shows<R: Register>(
     alloc: Global,
@@ -159,17 +174,7 @@ pub(crate) fn shows<R: Register>(
 ) -> Result<bool, RegisterFault> {
     let view = view(alloc, register)?;
     let is_fixed = view.spec == fixed_over(bits)?;
-    let is_closed = match view.summary {
-        Some(it) => {
-            lce == 1
-                && it.ballot == 2
-                && it.lng == 0
-                && it.trim.value() == 0
-                && it.end == 1
-                && !it.loss
-        }
-        None => lce == 0,
-    };
+    let is_closed = is_closed(view.summary, lce == 1);
     Ok(is_fixed && is_closed && view.epoch == 1 && view.lce == lce && view.swaps == 0)
 }
 
