@@ -24,14 +24,18 @@ fn told_after(alloc: Global, change: Change, fault: Fault) -> Result<u32, Regist
     told(alloc, &mut register, change)
 }
 
+/// The first epoch of a log, whether its close tells what is fixed behind it and both are shown, and the first draw.
+fn first_epoch(alloc: Global) -> Result<(u32, [bool; 2], (u32, usize)), RegisterFault> {
+    let mut register = new_register(alloc)?;
+    let first = epoch(alloc, &mut register, 1)?;
+    let closes = closes_before(alloc, &mut register, 5)?;
+    let shows = shows(alloc, &mut register, 1, 5)?;
+    Ok((first, [closes, shows], drawn(alloc, &mut register)?))
+}
+
 #[test]
 fn an_epoch_is_handed_out_and_closed(rt: HostRuntime) -> Result<(), Fail> {
-    let alloc = rt.alloc();
-    let mut register = new_register(alloc)?;
-    assert_eq!(rt; epoch(alloc, &mut register, 1), Ok(1));
-    assert_eq!(rt; closes_before(alloc, &mut register, 5), Ok(true));
-    assert_eq!(rt; shows(alloc, &mut register, 1, 5), Ok(true));
-    assert_eq!(rt; drawn(alloc, &mut register), Ok((1, 1)));
+    assert_eq!(rt; first_epoch(rt.alloc())?, (1, [true, true], (1, 1)));
     Ok(())
 }
 
@@ -44,24 +48,34 @@ fn with_epochs(alloc: Global, count: u32) -> Result<DiskRegister<MemDisk>, Regis
     Ok(register)
 }
 
+/// The faults of a short close of epoch 1 of three, and of another close of it then.
+fn faults_of_closes(alloc: Global) -> Result<[Option<RegisterFault>; 2], RegisterFault> {
+    let mut register = with_epochs(alloc, 3)?;
+    let short = close(alloc, &mut register, true).err();
+    Ok([short, close(alloc, &mut register, false).err()])
+}
+
 #[test]
 fn a_short_close_is_overtaken_by_another_epoch(rt: HostRuntime) -> Result<(), Fail> {
-    let alloc = rt.alloc();
-    let mut register = with_epochs(alloc, 3)?;
-    let overtaken = Err(RegisterFault::Overtaken(3));
-    assert_eq!(rt; close(alloc, &mut register, true), overtaken);
-    assert_eq!(rt; close(alloc, &mut register, false), Ok(()));
+    assert_eq!(rt;
+        faults_of_closes(rt.alloc())?,
+        [Some(RegisterFault::Overtaken(3)), None]
+    );
     Ok(())
+}
+
+/// What is shown of what is lost in epoch 1 of two, once a short close closed it, and once the register is loaded again.
+fn losses_of_a_short_close(alloc: Global) -> Result<[u32; 2], RegisterFault> {
+    let mut register = with_epochs(alloc, 2)?;
+    close(alloc, &mut register, true)?;
+    let before = loss(alloc, &mut register, 1)?;
+    let mut register = again(alloc, register);
+    Ok([before, loss(alloc, &mut register, 1)?])
 }
 
 #[test]
 fn a_short_close_of_the_greatest_epoch_is_taken(rt: HostRuntime) -> Result<(), Fail> {
-    let alloc = rt.alloc();
-    let mut register = with_epochs(alloc, 2)?;
-    assert_eq!(rt; close(alloc, &mut register, true), Ok(()));
-    assert_eq!(rt; loss(alloc, &mut register, 1), Ok(2));
-    let mut register = again(alloc, register);
-    assert_eq!(rt; loss(alloc, &mut register, 1), Ok(2));
+    assert_eq!(rt; losses_of_a_short_close(rt.alloc())?, [2, 2]);
     Ok(())
 }
 
@@ -94,45 +108,83 @@ fn a_crash_leaves_the_change_or_does_not(rt: HostRuntime) -> Result<(), Fail> {
     Ok(())
 }
 
+/// A register that handed out epoch 1 of log 1 over the nodes of one set and epoch 2 over those of another, loaded again;
+/// whether each activation told what is fixed for epoch 1.
+fn with_two_sets(alloc: Global) -> Result<(DiskRegister<MemDisk>, [bool; 2]), RegisterFault> {
+    let mut register = new_register(alloc)?;
+    let first = grants(alloc, &mut register, 5, 1, 5)?;
+    let second = grants(alloc, &mut register, 6, 2, 5)?;
+    Ok((again(alloc, register), [first, second]))
+}
+
+/// Whether both activations tell what is fixed, and the epochs 0 to 3 then show what is.
+fn fixes_each(alloc: Global) -> Result<[bool; 6], RegisterFault> {
+    let (mut register, [first, second]) = with_two_sets(alloc)?;
+    Ok([
+        first,
+        second,
+        fixes(alloc, &mut register, 0, 6)?,
+        fixes(alloc, &mut register, 1, 5)?,
+        fixes(alloc, &mut register, 2, 6)?,
+        fixes(alloc, &mut register, 3, 6)?,
+    ])
+}
+
 #[test]
 fn each_epoch_keeps_what_was_fixed_for_it(rt: HostRuntime) -> Result<(), Fail> {
-    let alloc = rt.alloc();
-    let mut register = new_register(alloc)?;
-    assert_eq!(rt; fixes(alloc, &mut register, 1, 0), Ok(true));
-    assert_eq!(rt; grants(alloc, &mut register, 5, 1, 5), Ok(true));
-    assert_eq!(rt; grants(alloc, &mut register, 6, 2, 5), Ok(true));
-    let mut register = again(alloc, register);
-    for (e, bits) in [(0, 6), (1, 5), (2, 6), (3, 6)] {
-        assert_eq!(rt; fixes(alloc, &mut register, e, bits), Ok(true));
-    }
+    assert_eq!(rt; fixes_each(rt.alloc())?, [true; 6]);
     Ok(())
+}
+
+/// Whether nothing is fixed for an epoch of a log that has none.
+fn fixes_nothing(alloc: Global) -> Result<bool, RegisterFault> {
+    let mut register = new_register(alloc)?;
+    fixes(alloc, &mut register, 1, 0)
+}
+
+#[test]
+fn nothing_is_fixed_before_the_first_activation(rt: HostRuntime) -> Result<(), Fail> {
+    assert_eq!(rt; fixes_nothing(rt.alloc()), Ok(true));
+    Ok(())
+}
+
+/// Whether a close of epoch 1 tells what is fixed for epoch 2, and the fault of the next close of epoch 1.
+fn closes_twice(alloc: Global) -> Result<(bool, Option<RegisterFault>), RegisterFault> {
+    let (mut register, _) = with_two_sets(alloc)?;
+    let told = closes_before(alloc, &mut register, 6)?;
+    Ok((told, close(alloc, &mut register, true).err()))
 }
 
 #[test]
 fn a_close_that_is_behind_tells_what_is_fixed_next(rt: HostRuntime) -> Result<(), Fail> {
-    let alloc = rt.alloc();
-    let mut register = with_epochs(alloc, 1)?;
-    assert_eq!(rt; grants(alloc, &mut register, 6, 2, 5), Ok(true));
-    assert_eq!(rt; closes_before(alloc, &mut register, 6), Ok(true));
     let behind = RegisterFault::Behind {
         lce: 1,
         next: fixed_over(6)?,
     };
-    assert_eq!(rt; close(alloc, &mut register, true), Err(behind));
+    assert_eq!(rt; closes_twice(rt.alloc())?, (true, Some(behind)));
     Ok(())
+}
+
+/// In how many of two epochs a spare takes the place of a member: before one of them is closed, then, and once more.
+fn swapped(alloc: Global) -> Result<(DiskRegister<MemDisk>, [u32; 3]), RegisterFault> {
+    let mut register = with_epochs(alloc, 2)?;
+    let open = swap(alloc, &mut register)?;
+    close(alloc, &mut register, false)?;
+    let closed = swap(alloc, &mut register)?;
+    let more = swap(alloc, &mut register)?;
+    Ok((again(alloc, register), [open, closed, more]))
+}
+
+/// The same, how many swaps both epochs show then, and whether the first one shows the spare and the second one doesn't.
+fn swaps_closed(alloc: Global) -> Result<([u32; 3], [(u32, bool); 2]), RegisterFault> {
+    let (mut register, counts) = swapped(alloc)?;
+    let closed = swaps(alloc, &mut register, 1, 6)?;
+    Ok((counts, [closed, swaps(alloc, &mut register, 2, 5)?]))
 }
 
 #[test]
 fn a_spare_takes_the_place_of_a_member_in_closed_epochs(rt: HostRuntime) -> Result<(), Fail> {
-    let alloc = rt.alloc();
-    let mut register = with_epochs(alloc, 2)?;
-    assert_eq!(rt; swap(alloc, &mut register), Ok(0));
-    assert_eq!(rt; close(alloc, &mut register, false), Ok(()));
-    assert_eq!(rt; swap(alloc, &mut register), Ok(1));
-    assert_eq!(rt; swap(alloc, &mut register), Ok(0));
-    let mut register = again(alloc, register);
-    for (e, bits) in [(1, 6), (2, 5)] {
-        assert_eq!(rt; swaps(alloc, &mut register, e, bits), Ok((1, true)));
-    }
+    let expected = ([0, 1, 0], [(1, true), (1, true)]);
+    assert_eq!(rt; swaps_closed(rt.alloc())?, expected);
     Ok(())
 }

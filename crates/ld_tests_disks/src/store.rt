@@ -242,12 +242,20 @@ fn each_op_is_there_or_is_not(rt: HostRuntime) -> Result<(), Fail> {
     Ok(())
 }
 
+/// The bytes that a format leaves on a disk, and a 9 where there are less.
+fn format_bytes(alloc: Global) -> Result<[u8; 14], Fail> {
+    let mut disk = formatted(alloc)?.into_disk();
+    let mut bytes = [9; 14];
+    let _ = disk.read(0, &mut bytes)?;
+    Ok(bytes)
+}
+
 #[test]
 fn a_format_is_one_record(rt: HostRuntime) -> Result<(), Fail> {
-    let mut disk = formatted(rt.alloc())?.into_disk();
-    let mut bytes = [9; 14];
-    assert_eq!(rt; disk.read(0, &mut bytes)?, 13);
-    assert_eq!(rt; bytes, [1, 0, 0, 0, 7, 10, 2, 0, 0, 0, 1, 0, 0, 9]);
+    assert_eq!(rt;
+        format_bytes(rt.alloc())?,
+        [1, 0, 0, 0, 7, 10, 2, 0, 0, 0, 1, 0, 0, 9]
+    );
     Ok(())
 }
 
@@ -257,15 +265,22 @@ fn seal<D: Disk>(alloc: Global, store: &mut Store<D>) -> Result<(), StoreFault> 
     keep(alloc, store, Op::Seal { log, ballot: 5 })
 }
 
-#[test]
-fn a_failed_disk_has_to_be_loaded_again(rt: HostRuntime) -> Result<(), Fail> {
-    let alloc = rt.alloc();
+/// The faults of a seal whose disk fails, of the next one, and of one once the store is loaded again.
+fn faults_of_seals(alloc: Global) -> Result<[Option<StoreFault>; 3], StoreFault> {
     let mut store = formatted(alloc)?;
     store.arm(Fault::FailAt(2));
-    assert_eq!(rt; seal(alloc, &mut store), Err(StoreFault::Disk));
-    assert_eq!(rt; seal(alloc, &mut store), Err(StoreFault::NeedsLoad));
+    let failed = seal(alloc, &mut store).err();
+    let next = seal(alloc, &mut store).err();
     let mut again = loaded(alloc, store.into_disk())?;
-    assert_eq!(rt; seal(alloc, &mut again), Ok(()));
+    Ok([failed, next, seal(alloc, &mut again).err()])
+}
+
+#[test]
+fn a_failed_disk_has_to_be_loaded_again(rt: HostRuntime) -> Result<(), Fail> {
+    assert_eq!(rt;
+        faults_of_seals(rt.alloc())?,
+        [Some(StoreFault::Disk), Some(StoreFault::NeedsLoad), None]
+    );
     Ok(())
 }
 
@@ -291,14 +306,16 @@ pub(crate) fn has<D: Disk>(store: &Store<D>, esn: u32) -> Result<bool, StoreFaul
     Ok(store.index().entry(log, Lsn::new(1, esn)).is_some())
 }
 
-#[test]
-fn many_accepts_are_loaded_again(rt: HostRuntime) -> Result<(), Fail> {
-    let alloc = rt.alloc();
+/// Whether the first, the last and another one behind it of 2,000 entries are loaded again.
+fn loads_many(alloc: Global) -> Result<[bool; 3], StoreFault> {
     let mut store = formatted(alloc)?;
     fill(alloc, &mut store, 2_000)?;
     let again = loaded(alloc, store.into_disk())?;
-    assert_eq!(rt; has(&again, 1), Ok(true));
-    assert_eq!(rt; has(&again, 2_000), Ok(true));
-    assert_eq!(rt; has(&again, 2_001), Ok(false));
+    Ok([has(&again, 1)?, has(&again, 2_000)?, has(&again, 2_001)?])
+}
+
+#[test]
+fn many_accepts_are_loaded_again(rt: HostRuntime) -> Result<(), Fail> {
+    assert_eq!(rt; loads_many(rt.alloc())?, [true, true, false]);
     Ok(())
 }

@@ -2,9 +2,8 @@
 ghost use Rattle.std.specs.Prelude.{◌≤◌, IfOk};
 ghost use Rattle.ld_msg.specs.Bounds.{IsMessage, IsSummary, Fits};
 ghost use Rattle.ld_msg.specs.declared.msg.Who.TheVariants as whos;
-ghost use Rattle.ld_register.specs.Bounds.{IsSpec};
 
-use crate::node::samples::{log_of, new_register, node_of};
+use crate::node::samples::{log_of, new_register, node_of, spec};
 use ld_config::{Config, Specs};
 use ld_host::{Formatted, Host, Hosts, Kept, Status};
 use ld_ids::{NoMemory, NodeSet, Payload, Spec};
@@ -244,8 +243,7 @@ fn a_format_that_crashes_is_not_kept(rt: HostRuntime) -> Result<(), Fail> {
     Ok(())
 }
 
-/// How a store and then a tick end at node 1, how many messages it sends, and how node 1 and node 2 are once node 1
-/// is stopped.
+/// How a store ends at node 1, how many messages it sends, and how a tick ends then.
 fn run_one<G: Register>(
     alloc: Global,
     hosts: &mut Hosts,
@@ -303,23 +301,6 @@ fn a_node_that_was_not_lost_takes_no_place(rt: HostRuntime) -> Result<(), Fail> 
     Ok(())
 }
 
-/// Log 1 on node 2 alone.
-fn spec() -> Result<Spec, NoMemory>
-    ensures { IfOk result IsSpec }
-{
-    let log = log_of(1)?;
-    let set = NodeSet::empty().with(node_of(2)?);
-    if set.len() == 0 || log.number() == 0 {
-        return Err(NoMemory);
-    }
-    Ok(Spec {
-        log,
-        set,
-        r: 1,
-        extras: 0,
-    })
-}
-
 /// Of an epoch that was closed with nothing in it.
 fn empty_summary() -> Summary
     ensures { IsSummary 1 result }
@@ -363,31 +344,32 @@ fn lost_hosts<G: Register>(alloc: Global, reg: &mut G) -> Result<Hosts, NoMemory
     Ok(hosts)
 }
 
-#[test]
-fn a_node_takes_a_place_once_it_is_rebuilt(rt: HostRuntime) -> Result<(), Fail> {
-    let alloc = rt.alloc();
+/// The same of three ticks, one behind the other.
+fn takes_places(alloc: Global) -> Result<[(Kept, u32); 3], NoMemory> {
     let mut reg = new_register(alloc)?;
     close_empty(alloc, &mut reg)?;
     let mut hosts = lost_hosts(alloc, &mut reg)?;
+    let first = tick_and_take(alloc, &mut hosts, &mut reg)?;
+    let second = tick_and_take(alloc, &mut hosts, &mut reg)?;
+    Ok([first, second, tick_and_take(alloc, &mut hosts, &mut reg)?])
+}
+
+#[test]
+fn a_node_takes_a_place_once_it_is_rebuilt(rt: HostRuntime) -> Result<(), Fail> {
     // The first tick cleans the epoch, and the second finds that nothing is missing.
-    assert_eq!(rt;
-        tick_and_take(alloc, &mut hosts, &mut reg)?,
-        (Kept::Written, 0)
-    );
-    assert_eq!(rt;
-        tick_and_take(alloc, &mut hosts, &mut reg)?,
-        (Kept::Written, 1)
-    );
-    assert_eq!(rt;
-        tick_and_take(alloc, &mut hosts, &mut reg)?,
-        (Kept::Written, 0)
-    );
+    let expected = [(Kept::Written, 0), (Kept::Written, 1), (Kept::Written, 0)];
+    assert_eq!(rt; takes_places(rt.alloc())?, expected);
     Ok(())
 }
 
 #[test]
-fn hosts_go_their_own_ways(rt: HostRuntime) -> Result<(), Fail> {
+fn a_host_that_runs_stores_and_ticks(rt: HostRuntime) -> Result<(), Fail> {
     assert_eq!(rt; runs(rt.alloc())?, (Kept::Written, 1, Kept::Written));
+    Ok(())
+}
+
+#[test]
+fn hosts_are_stopped_and_wiped_one_by_one(rt: HostRuntime) -> Result<(), Fail> {
     assert_eq!(rt;
         stops(rt.alloc())?,
         (Status::Down, Status::Blank, Status::Blank)

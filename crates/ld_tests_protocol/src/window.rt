@@ -17,13 +17,23 @@ fn pushed(alloc: Global, count: u32) -> Result<Window, Fail>
     Ok(window)
 }
 
+/// The first number that doesn't fit, and the first one once number 1 is stored, 0 for one behind that; and up to which number
+/// all are stored.
+fn past(alloc: Global) -> Result<[u32; 3], Fail> {
+    let mut window = pushed(alloc, 128)?;
+    let Err(Full) = window.push(129) else {
+        return Ok([0, 0, 0]);
+    };
+    window.stored(1);
+    let Ok(()) = window.push(129) else {
+        return Ok([129, 129, 0]);
+    };
+    let next = if window.push(130).is_err() { 130 } else { 0 };
+    Ok([129, next, window.lng()])
+}
+
 #[test]
 fn the_window_holds_128_numbers(rt: HostRuntime) -> Result<(), Fail> {
-    let mut window = pushed(rt.alloc(), 128)?;
-    assert_eq!(rt; window.push(129), Err(Full));
-    window.stored(1);
-    assert_eq!(rt; window.lng(), 1);
-    assert_eq!(rt; window.push(129), Ok(()));
-    assert_eq!(rt; window.push(130), Err(Full));
+    assert_eq!(rt; past(rt.alloc())?, [129, 130, 1]);
     Ok(())
 }

@@ -136,22 +136,27 @@ fn replays_a_schedule(rt: HostRuntime) -> Result<(), Fail> {
 
 #[test]
 fn says_where_a_line_is_off(rt: HostRuntime) -> Result<(), Fail> {
-    let first = Status::BadSchedule { line: 1, place: 0 };
-    assert_eq!(rt; replays(rt.alloc(), "", "")?, (first, true));
-    let third = Status::BadSchedule { line: 3, place: 6 };
-    assert_eq!(rt;
-        replays(rt.alloc(), CUT, "node 1 formatted 1\n")?,
-        (third, true)
-    );
+    for (input, line, place, written) in [("", 1, 0, ""), (CUT, 3, 6, "node 1 formatted 1\n")] {
+        assert_eq!(rt;
+            replays(rt.alloc(), input, written)?,
+            (Status::BadSchedule { line, place }, true)
+        );
+    }
     Ok(())
+}
+
+/// How replays end whose first read and whose first write fails, and whether they write nothing.
+fn failed(alloc: Global) -> Result<[(Status, bool); 2], Fail> {
+    Ok([
+        ends(alloc, &["replay"], SCHEDULE, (&[0], &[]), "")?,
+        ends(alloc, &["replay"], SCHEDULE, (&[], &[0]), "")?,
+    ])
 }
 
 #[test]
 fn hands_faults_on(rt: HostRuntime) -> Result<(), Fail> {
-    let reads = ends(rt.alloc(), &["replay"], SCHEDULE, (&[0], &[]), "")?;
-    assert_eq!(rt; reads, (Status::Read, true));
-    let writes = ends(rt.alloc(), &["replay"], SCHEDULE, (&[], &[0]), "")?;
-    assert_eq!(rt; writes, (Status::Write, true));
+    let expected = [(Status::Read, true), (Status::Write, true)];
+    assert_eq!(rt; failed(rt.alloc())?, expected);
     Ok(())
 }
 
@@ -214,8 +219,12 @@ fn served(alloc: Global, words: &[&str]) -> Result<(Status, bool), Fail> {
 
 #[test]
 fn a_node_answers_a_peer(rt: HostRuntime) -> Result<(), Fail> {
-    assert_eq!(rt; served(rt.alloc(), &NODE[..13])?, (Status::Blank, false));
-    assert_eq!(rt; served(rt.alloc(), &NODE)?, (Status::Ok, true));
+    for (words, status, answered) in [
+        (&NODE[..13], Status::Blank, false),
+        (&NODE[..], Status::Ok, true),
+    ] {
+        assert_eq!(rt; served(rt.alloc(), words)?, (status, answered));
+    }
     Ok(())
 }
 
@@ -253,19 +262,25 @@ const TAIL: [&str; 15] = [
     "e1n1",
 ];
 
+/// How an append and a tail end that reach no node, and whether they write what they can.
+fn reach_nobody(alloc: Global) -> Result<[(Status, bool); 2], Fail> {
+    let written = "active s 1\nappended s e1n1\n";
+    Ok([
+        ends(alloc, &APPEND, "6869\n", (&[], &[]), written)?,
+        alone(alloc, &TAIL, "")?,
+    ])
+}
+
 #[test]
 fn what_reaches_no_node_isnt_done(rt: HostRuntime) -> Result<(), Fail> {
-    let written = "active s 1\nappended s e1n1\n";
-    let append = ends(rt.alloc(), &APPEND, "6869\n", (&[], &[]), written)?;
-    assert_eq!(rt; append, (Status::Link, true));
-    assert_eq!(rt; alone(rt.alloc(), &TAIL, "")?, (Status::Link, true));
+    assert_eq!(rt; reach_nobody(rt.alloc())?, [(Status::Link, true); 2]);
     Ok(())
 }
 
-/// The status of a tail beside a register on this disk.
-fn tailed_beside(alloc: Global, disk: MemDisk) -> Result<Status, Fail> {
+/// The status of a tail beside a register on a disk that can't be read, or whose first record is out of bounds.
+fn tailed_beside(alloc: Global, fails: bool) -> Result<Status, Fail> {
     let mut o = outside_with(alloc, no_peer(alloc)?)?;
-    o.register = DiskRegister::new(alloc, disk);
+    o.register = DiskRegister::new(alloc, off_disk(alloc, fails)?);
     let (status, _, _) = performed(alloc, &TAIL, source(alloc, b"", &[])?, sink(alloc, &[])?, o)?;
     Ok(status)
 }
@@ -287,13 +302,10 @@ fn off_disk(alloc: Global, fails: bool) -> Result<MemDisk, Fail> {
 
 #[test]
 fn a_tail_ends_beside_a_register_that_cant_be_read(rt: HostRuntime) -> Result<(), Fail> {
-    let alloc = rt.alloc();
-    assert_eq!(rt;
-        tailed_beside(alloc, off_disk(alloc, true)?)?,
-        Status::Register
-    );
     let which = Which::Register;
     let damaged = Status::Damaged { which, place: 0 };
-    assert_eq!(rt; tailed_beside(alloc, off_disk(alloc, false)?)?, damaged);
+    for (fails, status) in [(true, Status::Register), (false, damaged)] {
+        assert_eq!(rt; tailed_beside(rt.alloc(), fails)?, status);
+    }
     Ok(())
 }

@@ -138,6 +138,11 @@ const APPENDED: [&[u8]; 3] = [b"format 1", b"activate a 1", b"append a -"];
 fn events_write_their_lines(rt: HostRuntime) -> Result<(), Fail> {
     let written = b"node 1 formatted 1\nactive a 1\nappended a e1n1\nmsg 0 s.a n.1 store e1n1\n";
     assert!(rt; tells(rt.alloc(), &APPENDED, written)?);
+    Ok(())
+}
+
+#[test]
+fn nothing_is_appended_without_a_sequencer(rt: HostRuntime) -> Result<(), Fail> {
     assert!(rt; tells(rt.alloc(), &[b"append a -"], b"none\n")?);
     Ok(())
 }
@@ -146,6 +151,11 @@ fn events_write_their_lines(rt: HostRuntime) -> Result<(), Fail> {
 fn the_oldest_new_message_is_delivered(rt: HostRuntime) -> Result<(), Fail> {
     let written = b"msg 1 n.1 s.a stored e1n1\n";
     assert_eq!(rt; flows(rt.alloc(), &APPENDED, written)?, (true, true));
+    Ok(())
+}
+
+#[test]
+fn nothing_is_delivered_where_nothing_was_sent(rt: HostRuntime) -> Result<(), Fail> {
     assert_eq!(rt; flows(rt.alloc(), &[], b"")?, (false, true));
     Ok(())
 }

@@ -124,9 +124,13 @@ fn named(alloc: Global, line: &str) -> Result<(bool, bool, u16), Fail> {
 
 #[test]
 fn places_of_commands(rt: HostRuntime) -> Result<(), Fail> {
-    assert_eq!(rt; named(rt.alloc(), NODE)?, (true, true, 65_535));
-    assert_eq!(rt; named(rt.alloc(), TAIL)?, (false, true, 7_000));
-    assert_eq!(rt; named(rt.alloc(), "replay")?, (false, false, 0));
+    for (line, expected) in [
+        (NODE, (true, true, 65_535)),
+        (TAIL, (false, true, 7_000)),
+        ("replay", (false, false, 0)),
+    ] {
+        assert_eq!(rt; named(rt.alloc(), line)?, expected);
+    }
     Ok(())
 }
 

@@ -55,10 +55,9 @@ const LOSS: &[Step] = &[
 
 #[test]
 fn a_gap_ends_at_the_last_number_that_is_wanted(rt: HostRuntime) -> Result<(), Fail> {
-    let alloc = rt.alloc();
-    assert_eq!(rt; as_told(alloc, TRIM)?, TRIM.len());
-    assert_eq!(rt; as_told(alloc, BRIDGE)?, BRIDGE.len());
-    assert_eq!(rt; as_told(alloc, LOSS)?, LOSS.len());
+    for steps in [TRIM, BRIDGE, LOSS] {
+        assert_eq!(rt; as_told(rt.alloc(), steps)?, steps.len());
+    }
     Ok(())
 }
 

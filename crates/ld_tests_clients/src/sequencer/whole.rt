@@ -181,37 +181,42 @@ fn closes_with(
     Ok(shows_loss(alloc, &mut run, loss))
 }
 
+// Whether the register shows, of an epoch that is closed with nothing lost and of one whose digest is spent, what is lost.
+fn shows_losses(alloc: Global) -> Result<[bool; 2], NoMemory> {
+    let spent = [Step::Loses(3), Step::Stores(1)];
+    Ok([
+        closes_with(alloc, &NEARLY_CLOSED, &[Step::Stores(1)], false)?,
+        closes_with(alloc, &NEARLY_SPENT, &spent, true)?,
+    ])
+}
+
 #[test]
 fn the_register_shows_what_is_closed(rt: HostRuntime) -> Result<(), Fail> {
-    let alloc = rt.alloc();
-    assert!(rt; closes_with(alloc, &NEARLY_CLOSED, &[Step::Stores(1)], false)?);
-    assert!(rt;
-        closes_with(
-            alloc,
-            &NEARLY_SPENT,
-            &[Step::Loses(3), Step::Stores(1)],
-            true
-        )?
-    );
+    assert_eq!(rt; shows_losses(rt.alloc())?, [true, true]);
     Ok(())
+}
+
+// Whether a close that fails is told, and the next one closes the epoch.
+fn closes_again(alloc: Global) -> Result<[bool; 2], NoMemory> {
+    let mut failed = Report::nothing();
+    failed.register = Some(CloseFault::Failed);
+    let fails = [Step::Fails, Step::Stores(1)];
+    let closed = closed_at(Lsn::new(1, 1), Lsn::new(2, 0));
+    let retries = [Step::Fails, Step::Stores(1), Step::Retries];
+    Ok([
+        next_plays(alloc, &NEARLY_CLOSED, &fails, &failed)?.0,
+        next_plays(alloc, &NEARLY_CLOSED, &retries, &closed)?.0,
+    ])
 }
 
 #[test]
 fn a_failed_close_is_tried_again_by_a_retry(rt: HostRuntime) -> Result<(), Fail> {
-    let alloc = rt.alloc();
-    let mut failed = Report::nothing();
-    failed.register = Some(CloseFault::Failed);
-    let fails = [Step::Fails, Step::Stores(1)];
-    assert!(rt; next_plays(alloc, &NEARLY_CLOSED, &fails, &failed)?.0);
-    let closed = closed_at(Lsn::new(1, 1), Lsn::new(2, 0));
-    let retries = [Step::Fails, Step::Stores(1), Step::Retries];
-    assert!(rt; next_plays(alloc, &NEARLY_CLOSED, &retries, &closed)?.0);
+    assert_eq!(rt; closes_again(rt.alloc())?, [true, true]);
     Ok(())
 }
 
 #[test]
 fn an_epochs_nodes_recover_it(rt: HostRuntime) -> Result<(), Fail> {
-    let alloc = rt.alloc();
     // a node of epoch 2 alone counts for nothing
     let strange = [
         Step::HasNothing(1),
@@ -219,9 +224,9 @@ fn an_epochs_nodes_recover_it(rt: HostRuntime) -> Result<(), Fail> {
         Step::Stores(3),
         Step::Stores(4),
     ];
-    let [(before, _), last] = played(alloc, &[[4, 5, 6]], &strange, &[Step::Stores(1)])?;
-    assert!(rt; before == Ok(Report::nothing()));
-    assert!(rt; last == (Ok(closed_at(Lsn::new(1, 1), Lsn::new(2, 0))), 6));
+    let [(before, _), last] = played(rt.alloc(), &[[4, 5, 6]], &strange, &[Step::Stores(1)])?;
+    let closed = (Ok(closed_at(Lsn::new(1, 1), Lsn::new(2, 0))), 6);
+    assert!(rt; before == Ok(Report::nothing()) && last == closed);
     Ok(())
 }
 
@@ -273,39 +278,40 @@ fn a_failed_look_has_done_nothing(rt: HostRuntime) -> Result<(), Fail> {
     Ok(())
 }
 
-#[test]
-fn a_spent_digest_says_what_is_lost(rt: HostRuntime) -> Result<(), Fail> {
-    let alloc = rt.alloc();
-    // the epoch's end goes to the one node that isn't lost, which closes it
-    let spent = next_plays(alloc, &NEARLY_SPENT, &[Step::Loses(3)], &Report::nothing())?;
-    assert_eq!(rt; spent, (true, 1));
+// What a sequencer whose digest is nearly spent comes to, and how many messages it sends: where the digest is spent, and where the one
+// node that isn't lost stores the epoch's end.
+fn spent(alloc: Global) -> Result<[(bool, usize); 2], NoMemory> {
     let closed = closed_at(Lsn::new(1, 1), Lsn::new(2, 0));
     let stores = [Step::Loses(3), Step::Stores(1)];
-    assert!(rt; next_plays(alloc, &NEARLY_SPENT, &stores, &closed)?.0);
+    Ok([
+        next_plays(alloc, &NEARLY_SPENT, &stores[..1], &Report::nothing())?,
+        next_plays(alloc, &NEARLY_SPENT, &stores, &closed)?,
+    ])
+}
+
+#[test]
+fn a_spent_digest_says_what_is_lost(rt: HostRuntime) -> Result<(), Fail> {
+    // the epoch's end goes to that one node, and all three nodes of both epochs hear of the close
+    assert_eq!(rt; spent(rt.alloc())?, [(true, 1), (true, 7)]);
     Ok(())
+}
+
+// The same where a greater epoch preempts it before, where the epoch is closed before, and where a greater epoch overtakes its short close.
+fn given_way(alloc: Global) -> Result<[(bool, usize); 3], NoMemory> {
+    let next = [Step::Next, Step::Loses(3)];
+    let closes = [Step::Closes, Step::Loses(3)];
+    let overtaken = [Step::Loses(3), Step::Next, Step::Stores(1)];
+    Ok([
+        next_plays(alloc, &NEARLY_SPENT, &next, &preempted())?,
+        next_plays(alloc, &NEARLY_SPENT, &closes, &released(Lsn::new(2, 0)))?,
+        next_plays(alloc, &NEARLY_SPENT, &overtaken, &preempted())?,
+    ])
 }
 
 #[test]
 fn a_spent_digest_gives_way_to_what_the_register_shows(rt: HostRuntime) -> Result<(), Fail> {
-    let alloc = rt.alloc();
-    // a greater epoch preempts it
-    let next = next_plays(
-        alloc,
-        &NEARLY_SPENT,
-        &[Step::Next, Step::Loses(3)],
-        &preempted(),
-    )?;
-    assert_eq!(rt; next, (true, 0));
-    // an epoch that is closed is passed
-    let passed = released(Lsn::new(2, 0));
-    let closes = [Step::Closes, Step::Loses(3)];
-    assert_eq!(rt;
-        next_plays(alloc, &NEARLY_SPENT, &closes, &passed)?,
-        (true, 6)
-    );
-    // and a short close is overtaken
-    let steps = [Step::Loses(3), Step::Next, Step::Stores(1)];
-    assert!(rt; next_plays(alloc, &NEARLY_SPENT, &steps, &preempted())?.0);
+    // an epoch that is closed is passed; of the short close only the epoch's end was sent
+    assert_eq!(rt; given_way(rt.alloc())?, [(true, 0), (true, 6), (true, 1)]);
     Ok(())
 }
 
@@ -321,10 +327,10 @@ fn looks_again(alloc: Global) -> Result<[Played; 3], NoMemory> {
 
 #[test]
 fn a_retry_looks_again(rt: HostRuntime) -> Result<(), Fail> {
-    let [failed, retried, closed] = looks_again(rt.alloc())?;
-    assert!(rt; failed == (Err(SequencerFault::Register(RegisterFault::Failed)), 0));
-    assert!(rt; retried == (Ok(Report::nothing()), 1));
-    assert!(rt; closed.0 == Ok(closed_at(Lsn::new(1, 1), Lsn::new(2, 0))));
+    let failed = Err(SequencerFault::Register(RegisterFault::Failed));
+    let closed = closed_at(Lsn::new(1, 1), Lsn::new(2, 0));
+    let expected = [(failed, 0), (Ok(Report::nothing()), 1), (Ok(closed), 6)];
+    assert!(rt; looks_again(rt.alloc())? == expected);
     Ok(())
 }
 

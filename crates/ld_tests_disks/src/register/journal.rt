@@ -27,129 +27,168 @@ fn has_bytes(register: DiskRegister<MemDisk>, expected: &[u8; 40]) -> Result<boo
     Ok(bytes == *expected)
 }
 
-#[test]
-fn an_activation_is_a_record_of_thirteen_bytes(rt: HostRuntime) -> Result<(), Fail> {
-    let alloc = rt.alloc();
+/// Whether the activation of a log over the nodes 1, 3 and 16 leaves these bytes.
+fn activates_with(alloc: Global, bytes: &[u8; 40]) -> Result<bool, Fail> {
     let mut register = new_register(alloc)?;
     let spec = spec_over(1, 0x8005)?;
-    assert_eq!(rt; register.activate(alloc, &spec).is_ok(), true);
-    let mut bytes = [9; 40];
-    bytes[..19].copy_from_slice(&[1, 0, 0, 0, 13, 19, 0, 0, 0, 1, 0, 0, 0, 1, 128, 5, 1, 2, 0]);
-    assert_eq!(rt; has_bytes(register, &bytes)?, true);
+    let is_granted = register.activate(alloc, &spec).is_ok();
+    Ok(is_granted && has_bytes(register, bytes)?)
+}
+
+#[test]
+fn an_activation_is_a_record_of_thirteen_bytes(rt: HostRuntime) -> Result<(), Fail> {
+    let bytes = [
+        1, 0, 0, 0, 13, 19, 0, 0, 0, 1, 0, 0, 0, 1, 128, 5, 1, 2, 0, 9, //
+        9, 9, 9, 9, 9, 9, 9, 9, 9, 9, 9, 9, 9, 9, 9, 9, 9, 9, 9, 9,
+    ];
+    assert!(rt; activates_with(rt.alloc(), &bytes)?);
     Ok(())
+}
+
+/// Whether the close of an epoch leaves these bytes.
+fn closes_with(alloc: Global, bytes: &[u8; 40]) -> Result<bool, Fail> {
+    let mut register = new_register(alloc)?;
+    close(alloc, &mut register, false)?;
+    has_bytes(register, bytes)
 }
 
 #[test]
 fn a_close_is_a_record_of_thirty_bytes(rt: HostRuntime) -> Result<(), Fail> {
-    let alloc = rt.alloc();
-    let mut register = new_register(alloc)?;
-    close(alloc, &mut register, false)?;
     let bytes = [
         1, 0, 0, 0, 30, 20, 0, 0, 0, 1, 0, 0, 0, 1, 0, 0, 0, 2, 0, 0, 0, 0, //
         0, 0, 0, 0, 0, 0, 0, 0, 0, 0, 0, 1, 1, 0, 9, 9, 9, 9,
     ];
-    assert_eq!(rt; has_bytes(register, &bytes)?, true);
+    assert!(rt; closes_with(rt.alloc(), &bytes)?);
     Ok(())
+}
+
+// An activation as it was written before sets were.
+const OLD: [u8; 15] = [1, 0, 0, 0, 9, 16, 0, 0, 0, 1, 0, 0, 0, 1, 0];
+
+/// Whether the register of that shows an epoch with no set, grants the next one with a set, and shows both once it is loaded again,
+/// also where the first one is closed.
+fn goes_on(alloc: Global) -> Result<[bool; 5], Fail> {
+    let mut register = register_of(alloc, &OLD)?;
+    let shown = shows(alloc, &mut register, 0, 0)?;
+    let granted = grants(alloc, &mut register, 5, 2, 0)?;
+    let mut register = again(alloc, register);
+    Ok([
+        shown,
+        granted,
+        fixes(alloc, &mut register, 1, 0)?,
+        fixes(alloc, &mut register, 2, 5)?,
+        closes_before(alloc, &mut register, 5)?,
+    ])
 }
 
 #[test]
 fn an_old_journal_goes_on(rt: HostRuntime) -> Result<(), Fail> {
-    let alloc = rt.alloc();
-    let bytes = [1, 0, 0, 0, 9, 16, 0, 0, 0, 1, 0, 0, 0, 1, 0];
-    let mut register = register_of(alloc, &bytes)?;
-    assert_eq!(rt; shows(alloc, &mut register, 0, 0), Ok(true));
-    assert_eq!(rt; grants(alloc, &mut register, 5, 2, 0), Ok(true));
-    let mut register = again(alloc, register);
-    for (e, bits) in [(1, 0), (2, 5)] {
-        assert_eq!(rt; fixes(alloc, &mut register, e, bits), Ok(true));
-    }
-    assert_eq!(rt; closes_before(alloc, &mut register, 5), Ok(true));
+    assert_eq!(rt; goes_on(rt.alloc())?, [true; 5]);
     Ok(())
+}
+
+// A close that lost something, and behind it one as it was written before losses were.
+const NEW_AND_OLD: [u8; 70] = [
+    1, 0, 0, 0, 30, 20, 0, 0, 0, 1, 0, 0, 0, 1, 0, 0, 0, 2, 0, 0, 0, 0, //
+    0, 0, 0, 0, 0, 0, 0, 0, 0, 0, 0, 1, 1, //
+    1, 0, 0, 0, 29, 17, 0, 0, 0, 1, 0, 0, 0, 2, 0, 0, 0, 3, 0, 0, 0, 0, //
+    0, 0, 0, 0, 0, 0, 0, 0, 0, 0, 0, 1, 0,
+];
+
+// The other way round.
+const OLD_AND_NEW: [u8; 70] = [
+    1, 0, 0, 0, 29, 17, 0, 0, 0, 1, 0, 0, 0, 1, 0, 0, 0, 2, 0, 0, 0, 0, //
+    0, 0, 0, 0, 0, 0, 0, 0, 0, 0, 0, 1, //
+    1, 0, 0, 0, 30, 20, 0, 0, 0, 1, 0, 0, 0, 2, 0, 0, 0, 3, 0, 0, 0, 0, //
+    0, 0, 0, 0, 0, 0, 0, 0, 0, 0, 0, 1, 1, 0,
+];
+
+/// What a register on a disk of these bytes shows of what is lost in the epochs 1 to 3.
+fn losses(alloc: Global, bytes: &[u8]) -> Result<[u32; 3], Fail>
+    requires { length bytes.now ≤ 80 }
+{
+    let mut register = register_of(alloc, bytes)?;
+    Ok([
+        loss(alloc, &mut register, 1)?,
+        loss(alloc, &mut register, 2)?,
+        loss(alloc, &mut register, 3)?,
+    ])
 }
 
 #[test]
 fn old_and_new_closes_may_follow_each_other(rt: HostRuntime) -> Result<(), Fail> {
-    let alloc = rt.alloc();
-    let bytes = [
-        1, 0, 0, 0, 30, 20, 0, 0, 0, 1, 0, 0, 0, 1, 0, 0, 0, 2, 0, 0, 0, 0, //
-        0, 0, 0, 0, 0, 0, 0, 0, 0, 0, 0, 1, 1, //
-        1, 0, 0, 0, 29, 17, 0, 0, 0, 1, 0, 0, 0, 2, 0, 0, 0, 3, 0, 0, 0, 0, //
-        0, 0, 0, 0, 0, 0, 0, 0, 0, 0, 0, 1, 0,
-    ];
-    let mut register = register_of(alloc, &bytes)?;
-    for (e, shown) in [(1, 2), (2, 1), (3, 0)] {
-        assert_eq!(rt; loss(alloc, &mut register, e), Ok(shown));
-    }
+    assert_eq!(rt; losses(rt.alloc(), &NEW_AND_OLD)?, [2, 1, 0]);
     Ok(())
 }
 
 #[test]
 fn an_old_close_loses_nothing(rt: HostRuntime) -> Result<(), Fail> {
-    let alloc = rt.alloc();
-    let bytes = [
-        1, 0, 0, 0, 29, 17, 0, 0, 0, 1, 0, 0, 0, 1, 0, 0, 0, 2, 0, 0, 0, 0, //
-        0, 0, 0, 0, 0, 0, 0, 0, 0, 0, 0, 1, //
-        1, 0, 0, 0, 30, 20, 0, 0, 0, 1, 0, 0, 0, 2, 0, 0, 0, 3, 0, 0, 0, 0, //
-        0, 0, 0, 0, 0, 0, 0, 0, 0, 0, 0, 1, 1, 0,
-    ];
-    let mut register = register_of(alloc, &bytes)?;
-    for (e, shown) in [(1, 1), (2, 2)] {
-        assert_eq!(rt; loss(alloc, &mut register, e), Ok(shown));
-    }
+    assert_eq!(rt; losses(rt.alloc(), &OLD_AND_NEW)?, [1, 2, 0]);
     Ok(())
+}
+
+/// Whether a register finds a disk of these bytes damaged from this place on.
+fn is_damaged_at(alloc: Global, bytes: &[u8], place: u64) -> Result<bool, Fail>
+    requires { length bytes.now ≤ 80 }
+{
+    let mut register = register_of(alloc, bytes)?;
+    Ok(loss(alloc, &mut register, 1) == Err(RegisterFault::Damaged(place)))
 }
 
 #[test]
 fn a_close_with_another_loss_than_0_or_1_is_damaged(rt: HostRuntime) -> Result<(), Fail> {
-    let alloc = rt.alloc();
     let bytes = [
         1, 0, 0, 0, 30, 20, 0, 0, 0, 1, 0, 0, 0, 1, 0, 0, 0, 2, 0, 0, 0, 0, //
         0, 0, 0, 0, 0, 0, 0, 0, 0, 0, 0, 1, 2, 0,
     ];
-    let mut register = register_of(alloc, &bytes)?;
-    assert_eq!(rt;
-        loss(alloc, &mut register, 1),
-        Err(RegisterFault::Damaged(0))
-    );
+    assert!(rt; is_damaged_at(rt.alloc(), &bytes, 0)?);
     Ok(())
+}
+
+/// Whether an activation with this factor and so many extras, behind an old one, is damaged.
+fn is_out_of_bounds(alloc: Global, r: u8, extras: u8) -> Result<bool, Fail> {
+    let bytes = [
+        1, 0, 0, 0, 9, 16, 0, 0, 0, 1, 0, 0, 0, 1, //
+        1, 0, 0, 0, 13, 19, 0, 0, 0, 1, 0, 0, 0, 2, 0, 5, r, extras, 0,
+    ];
+    is_damaged_at(alloc, &bytes, 14)
 }
 
 #[test]
 fn an_activation_out_of_bounds_is_damaged(rt: HostRuntime) -> Result<(), Fail> {
-    let alloc = rt.alloc();
     for (r, extras) in [(0, 0), (3, 0), (1, 4)] {
-        let bytes = [
-            1, 0, 0, 0, 9, 16, 0, 0, 0, 1, 0, 0, 0, 1, //
-            1, 0, 0, 0, 13, 19, 0, 0, 0, 1, 0, 0, 0, 2, 0, 5, r, extras, 0,
-        ];
-        let mut register = register_of(alloc, &bytes)?;
-        assert_eq!(rt;
-            loss(alloc, &mut register, 1),
-            Err(RegisterFault::Damaged(14))
-        );
+        assert!(rt; is_out_of_bounds(rt.alloc(), r, extras)?);
     }
     Ok(())
 }
 
+// An activation, the close of its epoch, and a swap.
+const SWAPPED: [u8; 70] = [
+    1, 0, 0, 0, 13, 19, 0, 0, 0, 1, 0, 0, 0, 1, 0, 5, 1, 2, //
+    1, 0, 0, 0, 30, 20, 0, 0, 0, 1, 0, 0, 0, 1, 0, 0, 0, 2, 0, 0, 0, 0, //
+    0, 0, 0, 0, 0, 0, 0, 0, 0, 0, 0, 1, 0, //
+    1, 0, 0, 0, 11, 21, 0, 0, 0, 1, 0, 0, 0, 1, 1, 2, 0,
+];
+
+/// How many swaps are shown of it, and whether the spare is.
+fn shows_swapped(alloc: Global) -> Result<(u32, bool), Fail> {
+    let mut register = register_of(alloc, &SWAPPED)?;
+    Ok(swaps(alloc, &mut register, 1, 6)?)
+}
+
 #[test]
 fn a_swap_is_read_where_it_changes_an_epoch(rt: HostRuntime) -> Result<(), Fail> {
-    let alloc = rt.alloc();
+    assert_eq!(rt; shows_swapped(rt.alloc())?, (1, true));
+    Ok(())
+}
+
+#[test]
+fn a_swap_that_changes_no_epoch_is_damaged(rt: HostRuntime) -> Result<(), Fail> {
+    // The epoch isn't closed.
     let bytes = [
         1, 0, 0, 0, 13, 19, 0, 0, 0, 1, 0, 0, 0, 1, 0, 5, 1, 2, //
-        1, 0, 0, 0, 30, 20, 0, 0, 0, 1, 0, 0, 0, 1, 0, 0, 0, 2, 0, 0, 0, 0, //
-        0, 0, 0, 0, 0, 0, 0, 0, 0, 0, 0, 1, 0, //
         1, 0, 0, 0, 11, 21, 0, 0, 0, 1, 0, 0, 0, 1, 1, 2, 0,
     ];
-    let mut register = register_of(alloc, &bytes)?;
-    assert_eq!(rt; swaps(alloc, &mut register, 1, 6), Ok((1, true)));
-    let bytes = [
-        1, 0, 0, 0, 13, 19, 0, 0, 0, 1, 0, 0, 0, 1, 0, 5, 1, 2, //
-        1, 0, 0, 0, 11, 21, 0, 0, 0, 1, 0, 0, 0, 1, 1, 2, 0,
-    ];
-    let mut register = register_of(alloc, &bytes)?;
-    assert_eq!(rt;
-        loss(alloc, &mut register, 1),
-        Err(RegisterFault::Damaged(18))
-    );
+    assert!(rt; is_damaged_at(rt.alloc(), &bytes, 18)?);
     Ok(())
 }

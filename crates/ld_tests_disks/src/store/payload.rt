@@ -83,31 +83,42 @@ pub(crate) fn read<D: Disk>(alloc: Global, store: &mut Store<D>) -> Result<Vec<u
     }
 }
 
-/// The fault of a page that a store reads, or whether its payloads are those that were kept.
+/// Whether the payloads of the page that a store reads are those that were kept.
 fn reads<D: Disk>(alloc: Global, store: &mut Store<D>) -> Result<bool, StoreFault> {
     let bytes = read(alloc, store)?;
     Ok(&bytes[..] == [9, 1, 2, 3, 4, 5].as_slice())
 }
 
+/// Whether a store reads what it kept, and does once it is loaded again.
+fn reads_twice(alloc: Global) -> Result<[bool; 2], StoreFault> {
+    let mut store = stored(alloc)?;
+    let before = reads(alloc, &mut store)?;
+    let mut again = loaded(alloc, store.into_disk())?;
+    Ok([before, reads(alloc, &mut again)?])
+}
+
 #[test]
 fn what_is_filled_is_what_was_kept(rt: HostRuntime) -> Result<(), Fail> {
-    let alloc = rt.alloc();
-    let mut store = stored(alloc)?;
-    assert_eq!(rt; reads(alloc, &mut store), Ok(true));
-    let mut again = loaded(alloc, store.into_disk())?;
-    assert_eq!(rt; reads(alloc, &mut again), Ok(true));
+    assert_eq!(rt; reads_twice(rt.alloc())?, [true, true]);
     Ok(())
+}
+
+/// The faults of a page whose read fails, of the next one, and of one once the store is loaded again.
+fn faults_of_reads(alloc: Global) -> Result<[Option<StoreFault>; 3], StoreFault> {
+    let mut store = stored(alloc)?;
+    store.arm(Fault::FailReadAt(2));
+    let failed = reads(alloc, &mut store).err();
+    let next = reads(alloc, &mut store).err();
+    let mut again = loaded(alloc, store.into_disk())?;
+    Ok([failed, next, reads(alloc, &mut again).err()])
 }
 
 #[test]
 fn a_read_that_fails_has_to_be_loaded_again(rt: HostRuntime) -> Result<(), Fail> {
-    let alloc = rt.alloc();
-    let mut store = stored(alloc)?;
-    store.arm(Fault::FailReadAt(2));
-    assert_eq!(rt; reads(alloc, &mut store), Err(StoreFault::Disk));
-    assert_eq!(rt; reads(alloc, &mut store), Err(StoreFault::NeedsLoad));
-    let mut again = loaded(alloc, store.into_disk())?;
-    assert_eq!(rt; reads(alloc, &mut again), Ok(true));
+    assert_eq!(rt;
+        faults_of_reads(rt.alloc())?,
+        [Some(StoreFault::Disk), Some(StoreFault::NeedsLoad), None]
+    );
     Ok(())
 }
 
@@ -132,12 +143,18 @@ fn payload(alloc: Global, bytes: &[u8]) -> Result<Payload, NoMemory> {
     Ok(Payload::new(Vec::from_slice(alloc, bytes)?))
 }
 
+/// Whether the payload of place 3, another of its length and a shorter one stand there.
+fn which_stand(alloc: Global) -> Result<[bool; 3], StoreFault> {
+    let mut store = stored(alloc)?;
+    Ok([
+        stands(alloc, &mut store, &[3, 4, 5])?,
+        stands(alloc, &mut store, &[3, 4, 6])?,
+        stands(alloc, &mut store, &[3, 4])?,
+    ])
+}
+
 #[test]
 fn a_payload_is_there_or_is_not(rt: HostRuntime) -> Result<(), Fail> {
-    let alloc = rt.alloc();
-    let mut store = stored(alloc)?;
-    assert_eq!(rt; stands(alloc, &mut store, &[3, 4, 5]), Ok(true));
-    assert_eq!(rt; stands(alloc, &mut store, &[3, 4, 6]), Ok(false));
-    assert_eq!(rt; stands(alloc, &mut store, &[3, 4]), Ok(false));
+    assert_eq!(rt; which_stand(rt.alloc())?, [true, false, false]);
     Ok(())
 }

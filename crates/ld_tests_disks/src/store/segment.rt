@@ -150,62 +150,50 @@ fn length_behind(alloc: Global, count: u32) -> Result<(u64, bool), Fail>
 fn a_trimmed_log_takes_its_space_again(rt: HostRuntime) -> Result<(), Fail> {
     // Some thirty segments of 128 KB each were begun, and no more than three areas are live at once.
     let (length, is_there) = length_behind(rt.alloc(), 1_000)?;
-    assert!(rt; length < 500_000);
-    assert!(rt; is_there);
+    assert!(rt; length < 500_000 && is_there);
     Ok(())
 }
 
-/// at 1902, its slots begin at 1917 and its Base at 1951.
-fn fault_behind(alloc: Global, at: u64, byte: u8) -> Result<Option<StoreFault>, Fail>
+/// From which place on a load finds a disk damaged that was switched once, after a byte was written over; 0 where it
+/// doesn't. Its head stands at 1902, its slots begin at 1917 and its Base at 1951.
+fn damaged_behind(alloc: Global, at: u64, byte: u8) -> Result<u64, Fail>
     requires { at < 2 ^ 16 }
 {
     let mut disk = filled(alloc, 64)?.into_disk();
     disk.reserve(at + 1, 2)?;
     disk.write_at(at, &[byte])?;
     disk.sync()?;
-    Ok(loaded(alloc, disk).err())
+    Ok(place_of(loaded(alloc, disk).err()))
+}
+
+/// The place of a damage, 0 of nothing, and 1 of another fault.
+fn place_of(fault: Option<StoreFault>) -> u64 {
+    match fault {
+        Some(StoreFault::Damaged(place)) => place,
+        Some(_) => 1,
+        None => 0,
+    }
 }
 
 #[test]
 fn what_a_head_names_is_damaged_or_not(rt: HostRuntime) -> Result<(), Fail> {
-    let alloc = rt.alloc();
-    // The other slot's number is no matter.
-    assert_eq!(rt; fault_behind(alloc, 1_936, 9)?, None);
-    // No slot is open.
-    assert_eq!(rt;
-        fault_behind(alloc, 1_917, 0)?,
-        Some(StoreFault::Damaged(1_917))
-    );
-    // No Base stands there, or one of the first version.
-    assert_eq!(rt;
-        fault_behind(alloc, 1_951, 0)?,
-        Some(StoreFault::Damaged(1_951))
-    );
-    assert_eq!(rt;
-        fault_behind(alloc, 1_956, 9)?,
-        Some(StoreFault::Damaged(1_951))
-    );
-    Ok(())
-}
-
-#[test]
-fn a_head_that_names_another_place_is_damaged_only_there(rt: HostRuntime) -> Result<(), Fail> {
-    let alloc = rt.alloc();
-    // Within the first segment, where no slot is open.
-    assert_eq!(rt;
-        fault_behind(alloc, 1_915, 9)?,
-        Some(StoreFault::Damaged(1_801))
-    );
-    // Behind the disk's end.
-    assert_eq!(rt;
-        fault_behind(alloc, 1_912, 1)?,
-        Some(StoreFault::Damaged(16_779_133))
-    );
-    // Behind the limit.
-    assert_eq!(rt;
-        fault_behind(alloc, 1_908, 255)?,
-        Some(StoreFault::Damaged(18_374_686_479_671_625_597))
-    );
+    for (at, byte, place) in [
+        // The other slot's number is no matter.
+        (1_936, 9, 0),
+        // No slot is open.
+        (1_917, 0, 1_917),
+        // No Base stands there, or one of the first version.
+        (1_951, 0, 1_951),
+        (1_956, 9, 1_951),
+        // The head names a place within the first segment, where no slot is open.
+        (1_915, 9, 1_801),
+        // One behind the disk's end.
+        (1_912, 1, 16_779_133),
+        // One behind the limit.
+        (1_908, 255, 18_374_686_479_671_625_597),
+    ] {
+        assert_eq!(rt; damaged_behind(rt.alloc(), at, byte)?, place);
+    }
     Ok(())
 }
 
@@ -260,9 +248,9 @@ fn slots_are_read_and_written_where_the_head_names_them(rt: HostRuntime) -> Resu
     Ok(())
 }
 
-/// The fault of a load of such a disk, after a number of eight bytes was written over at a place: the disk's length and
-/// one, less this.
-fn fault_past(alloc: Global, at: u64, less: u64) -> Result<Option<StoreFault>, Fail>
+/// From which place on a load finds such a disk damaged, after a number of eight bytes was written over at a place: the
+/// disk's length and one, less this; 0 where it doesn't.
+fn damaged_past(alloc: Global, at: u64, less: u64) -> Result<u64, Fail>
     requires { at < 2 ^ 16 }
 {
     let mut disk = filled(alloc, 64)?.into_disk();
@@ -270,23 +258,20 @@ fn fault_past(alloc: Global, at: u64, less: u64) -> Result<Option<StoreFault>, F
     disk.reserve(at + 8, 2)?;
     disk.write_at(at, &number.to_be_bytes())?;
     disk.sync()?;
-    Ok(loaded(alloc, disk).err())
+    Ok(place_of(loaded(alloc, disk).err()))
 }
 
 #[test]
 fn a_base_that_names_a_place_past_the_end_is_damaged(rt: HostRuntime) -> Result<(), Fail> {
-    let alloc = rt.alloc();
-    // The place of the first entry's payload, which has one byte.
-    assert_eq!(rt; fault_past(alloc, 2_009, 2)?, None);
-    assert_eq!(rt;
-        fault_past(alloc, 2_009, 1)?,
-        Some(StoreFault::Damaged(1_951))
-    );
-    // The length of the area that begins at 0.
-    assert_eq!(rt; fault_past(alloc, 3_457, 1)?, None);
-    assert_eq!(rt;
-        fault_past(alloc, 3_457, 0)?,
-        Some(StoreFault::Damaged(1_951))
-    );
+    for (at, less, place) in [
+        // The place of the first entry's payload, which has one byte.
+        (2_009, 2, 0),
+        (2_009, 1, 1_951),
+        // The length of the area that begins at 0.
+        (3_457, 1, 0),
+        (3_457, 0, 1_951),
+    ] {
+        assert_eq!(rt; damaged_past(rt.alloc(), at, less)?, place);
+    }
     Ok(())
 }

@@ -28,20 +28,20 @@ fn holds(disk: &mut MemDisk, bytes: &[u8]) -> Result<bool, Fail> {
     Ok(&read[..count] == bytes)
 }
 
-/// Whether a load of a disk that holds the bytes is a store of generation 1, and leaves the others on it.
-fn leaves(alloc: Global, before: &[u8], after: &[u8]) -> Result<bool, Fail> {
+/// Whether a load of a disk that holds the bytes is a store of generation 1, and leaves the mark on it.
+fn is_marked(alloc: Global, before: &[u8]) -> Result<bool, Fail> {
     let store = loaded(alloc, disk_with(alloc, before)?)?;
     let is_formatted = store.index().generation() == 1;
     let mut disk = store.into_disk();
-    let same = holds(&mut disk, after)?;
+    let same = holds(&mut disk, MARKED)?;
     Ok(is_formatted && same)
 }
 
 #[test]
 fn a_journal_of_the_first_version_is_marked_once(rt: HostRuntime) -> Result<(), Fail> {
-    let alloc = rt.alloc();
-    assert!(rt; leaves(alloc, OLDER, MARKED)?);
-    assert!(rt; leaves(alloc, MARKED, MARKED)?);
+    for before in [OLDER, MARKED] {
+        assert!(rt; is_marked(rt.alloc(), before)?);
+    }
     Ok(())
 }
 
@@ -72,48 +72,38 @@ fn a_mark_that_is_cut_short_comes_with_the_next_load(rt: HostRuntime) -> Result<
     Ok(())
 }
 
-/// The fault of a load of a disk that holds the bytes.
-fn fault_of(alloc: Global, bytes: &[u8]) -> Result<Option<StoreFault>, Fail> {
+/// Whether a load of a disk that holds the bytes finds them damaged from this place on.
+fn is_damaged_at(alloc: Global, bytes: &[u8], place: u64) -> Result<bool, Fail> {
     let disk = disk_with(alloc, bytes)?;
-    Ok(loaded(alloc, disk).err())
+    Ok(loaded(alloc, disk).err() == Some(StoreFault::Damaged(place)))
 }
+
+// A mark alone.
+const MARK: &[u8] = &[1, 0, 0, 0, 2, 11, 2, 0];
+
+// A store of the first version with two marks.
+const TWO_MARKS: &[u8] = &[
+    1, 0, 0, 0, 6, 1, 0, 0, 0, 1, 0, 1, 0, 0, 0, 2, 11, 2, 1, 0, 0, 0, 2, 11, 2, 0,
+];
+
+// A store of the second version with a mark.
+const NEWER_MARKED: &[u8] = &[1, 0, 0, 0, 7, 10, 2, 0, 0, 0, 1, 0, 1, 0, 0, 0, 2, 11, 2, 0];
+
+// A format of the second version in a store of the first.
+const NEWER_IN_OLDER: &[u8] = &[
+    1, 0, 0, 0, 6, 1, 0, 0, 0, 1, 0, 1, 0, 0, 0, 7, 10, 2, 0, 0, 0, 1, 0, 0,
+];
 
 #[test]
 fn records_out_of_place_are_damage(rt: HostRuntime) -> Result<(), Fail> {
-    let alloc = rt.alloc();
-    // A mark alone.
-    assert_eq!(rt;
-        fault_of(alloc, &[1, 0, 0, 0, 2, 11, 2, 0])?,
-        Some(StoreFault::Damaged(0))
-    );
-    // A second mark.
-    assert_eq!(rt;
-        fault_of(
-            alloc,
-            &[
-                1, 0, 0, 0, 6, 1, 0, 0, 0, 1, 0, 1, 0, 0, 0, 2, 11, 2, 1, 0, 0, 0, 2, 11, 2, 0
-            ]
-        )?,
-        Some(StoreFault::Damaged(18))
-    );
-    // A mark in a journal of the second version.
-    assert_eq!(rt;
-        fault_of(
-            alloc,
-            &[1, 0, 0, 0, 7, 10, 2, 0, 0, 0, 1, 0, 1, 0, 0, 0, 2, 11, 2, 0]
-        )?,
-        Some(StoreFault::Damaged(12))
-    );
-    // A format of the second version in a journal of the first.
-    assert_eq!(rt;
-        fault_of(
-            alloc,
-            &[
-                1, 0, 0, 0, 6, 1, 0, 0, 0, 1, 0, 1, 0, 0, 0, 7, 10, 2, 0, 0, 0, 1, 0, 0
-            ]
-        )?,
-        Some(StoreFault::Damaged(11))
-    );
+    for (bytes, place) in [
+        (MARK, 0),
+        (TWO_MARKS, 18),
+        (NEWER_MARKED, 12),
+        (NEWER_IN_OLDER, 11),
+    ] {
+        assert!(rt; is_damaged_at(rt.alloc(), bytes, place)?);
+    }
     Ok(())
 }
 
