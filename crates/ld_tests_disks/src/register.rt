@@ -35,7 +35,7 @@ fn first_epoch(alloc: Global) -> Result<(u32, [bool; 2], (u32, usize)), Register
 
 #[test]
 fn an_epoch_is_handed_out_and_closed(rt: HostRuntime) -> Result<(), Fail> {
-    assert_eq!(rt; first_epoch(rt.alloc())?, (1, [true, true], (1, 1)));
+    assert_eq!(rt; first_epoch(rt.alloc()), Ok((1, [true, true], (1, 1))));
     Ok(())
 }
 
@@ -58,8 +58,8 @@ fn faults_of_closes(alloc: Global) -> Result<[Option<RegisterFault>; 2], Registe
 #[test]
 fn a_short_close_is_overtaken_by_another_epoch(rt: HostRuntime) -> Result<(), Fail> {
     assert_eq!(rt;
-        faults_of_closes(rt.alloc())?,
-        [Some(RegisterFault::Overtaken(3)), None]
+        faults_of_closes(rt.alloc()),
+        Ok([Some(RegisterFault::Overtaken(3)), None])
     );
     Ok(())
 }
@@ -75,7 +75,7 @@ fn losses_of_a_short_close(alloc: Global) -> Result<[u32; 2], RegisterFault> {
 
 #[test]
 fn a_short_close_of_the_greatest_epoch_is_taken(rt: HostRuntime) -> Result<(), Fail> {
-    assert_eq!(rt; losses_of_a_short_close(rt.alloc())?, [2, 2]);
+    assert_eq!(rt; losses_of_a_short_close(rt.alloc()), Ok([2, 2]));
     Ok(())
 }
 
@@ -132,7 +132,7 @@ fn fixes_each(alloc: Global) -> Result<[bool; 6], RegisterFault> {
 
 #[test]
 fn each_epoch_keeps_what_was_fixed_for_it(rt: HostRuntime) -> Result<(), Fail> {
-    assert_eq!(rt; fixes_each(rt.alloc())?, [true; 6]);
+    assert_eq!(rt; fixes_each(rt.alloc()), Ok([true; 6]));
     Ok(())
 }
 
@@ -161,7 +161,7 @@ fn a_close_that_is_behind_tells_what_is_fixed_next(rt: HostRuntime) -> Result<()
         lce: 1,
         next: fixed_over(6)?,
     };
-    assert_eq!(rt; closes_twice(rt.alloc())?, (true, Some(behind)));
+    assert_eq!(rt; closes_twice(rt.alloc()), Ok((true, Some(behind))));
     Ok(())
 }
 
@@ -185,6 +185,6 @@ fn swaps_closed(alloc: Global) -> Result<([u32; 3], [(u32, bool); 2]), RegisterF
 #[test]
 fn a_spare_takes_the_place_of_a_member_in_closed_epochs(rt: HostRuntime) -> Result<(), Fail> {
     let expected = ([0, 1, 0], [(1, true), (1, true)]);
-    assert_eq!(rt; swaps_closed(rt.alloc())?, expected);
+    assert_eq!(rt; swaps_closed(rt.alloc()), Ok(expected));
     Ok(())
 }

@@ -2,7 +2,8 @@
 ghost use Rattle.std.specs.Prelude.{◌≤◌, length};
 
 use crate::register::asking::{
-    again, close, closes_before, fixes, grants, loss, new_register, shows, spec_over, swaps,
+    again, close, closes_before, fixes, grants, loss, new_disk, new_register, shows, spec_over,
+    swaps,
 };
 use ld_disk::{Disk, MemDisk};
 use ld_register::{DiskRegister, Register, RegisterFault};
@@ -10,12 +11,16 @@ use std::alloc::Global;
 use std::test::Fail;
 
 /// A register on a disk of these bytes.
-fn register_of(alloc: Global, bytes: &[u8]) -> Result<DiskRegister<MemDisk>, Fail>
+fn register_of(alloc: Global, bytes: &[u8]) -> Result<DiskRegister<MemDisk>, RegisterFault>
     requires { length bytes.now ≤ 80 }
 {
-    let mut disk = MemDisk::new(alloc)?;
-    disk.reserve(80, 1)?;
-    disk.write_at(0, bytes)?;
+    let mut disk = new_disk(alloc)?;
+    let Ok(()) = disk.reserve(80, 1) else {
+        return Err(RegisterFault::NoMemory);
+    };
+    let Ok(()) = disk.write_at(0, bytes) else {
+        return Err(RegisterFault::NoMemory);
+    };
     Ok(DiskRegister::new(alloc, disk))
 }
 
@@ -67,7 +72,7 @@ const OLD: [u8; 15] = [1, 0, 0, 0, 9, 16, 0, 0, 0, 1, 0, 0, 0, 1, 0];
 
 /// Whether the register of that shows an epoch with no set, grants the next one with a set, and shows both once it is loaded again,
 /// also where the first one is closed.
-fn goes_on(alloc: Global) -> Result<[bool; 5], Fail> {
+fn goes_on(alloc: Global) -> Result<[bool; 5], RegisterFault> {
     let mut register = register_of(alloc, &OLD)?;
     let shown = shows(alloc, &mut register, 0, 0)?;
     let granted = grants(alloc, &mut register, 5, 2, 0)?;
@@ -83,7 +88,7 @@ fn goes_on(alloc: Global) -> Result<[bool; 5], Fail> {
 
 #[test]
 fn an_old_journal_goes_on(rt: HostRuntime) -> Result<(), Fail> {
-    assert_eq!(rt; goes_on(rt.alloc())?, [true; 5]);
+    assert_eq!(rt; goes_on(rt.alloc()), Ok([true; 5]));
     Ok(())
 }
 
@@ -104,7 +109,7 @@ const OLD_AND_NEW: [u8; 70] = [
 ];
 
 /// What a register on a disk of these bytes shows of what is lost in the epochs 1 to 3.
-fn losses(alloc: Global, bytes: &[u8]) -> Result<[u32; 3], Fail>
+fn losses(alloc: Global, bytes: &[u8]) -> Result<[u32; 3], RegisterFault>
     requires { length bytes.now ≤ 80 }
 {
     let mut register = register_of(alloc, bytes)?;
@@ -117,18 +122,18 @@ fn losses(alloc: Global, bytes: &[u8]) -> Result<[u32; 3], Fail>
 
 #[test]
 fn old_and_new_closes_may_follow_each_other(rt: HostRuntime) -> Result<(), Fail> {
-    assert_eq!(rt; losses(rt.alloc(), &NEW_AND_OLD)?, [2, 1, 0]);
+    assert_eq!(rt; losses(rt.alloc(), &NEW_AND_OLD), Ok([2, 1, 0]));
     Ok(())
 }
 
 #[test]
 fn an_old_close_loses_nothing(rt: HostRuntime) -> Result<(), Fail> {
-    assert_eq!(rt; losses(rt.alloc(), &OLD_AND_NEW)?, [1, 2, 0]);
+    assert_eq!(rt; losses(rt.alloc(), &OLD_AND_NEW), Ok([1, 2, 0]));
     Ok(())
 }
 
 /// Whether a register finds a disk of these bytes damaged from this place on.
-fn is_damaged_at(alloc: Global, bytes: &[u8], place: u64) -> Result<bool, Fail>
+fn is_damaged_at(alloc: Global, bytes: &[u8], place: u64) -> Result<bool, RegisterFault>
     requires { length bytes.now ≤ 80 }
 {
     let mut register = register_of(alloc, bytes)?;
@@ -141,12 +146,12 @@ fn a_close_with_another_loss_than_0_or_1_is_damaged(rt: HostRuntime) -> Result<(
         1, 0, 0, 0, 30, 20, 0, 0, 0, 1, 0, 0, 0, 1, 0, 0, 0, 2, 0, 0, 0, 0, //
         0, 0, 0, 0, 0, 0, 0, 0, 0, 0, 0, 1, 2, 0,
     ];
-    assert!(rt; is_damaged_at(rt.alloc(), &bytes, 0)?);
+    assert_eq!(rt; is_damaged_at(rt.alloc(), &bytes, 0), Ok(true));
     Ok(())
 }
 
 /// Whether an activation with this factor and so many extras, behind an old one, is damaged.
-fn is_out_of_bounds(alloc: Global, r: u8, extras: u8) -> Result<bool, Fail> {
+fn is_out_of_bounds(alloc: Global, r: u8, extras: u8) -> Result<bool, RegisterFault> {
     let bytes = [
         1, 0, 0, 0, 9, 16, 0, 0, 0, 1, 0, 0, 0, 1, //
         1, 0, 0, 0, 13, 19, 0, 0, 0, 1, 0, 0, 0, 2, 0, 5, r, extras, 0,
@@ -157,7 +162,7 @@ fn is_out_of_bounds(alloc: Global, r: u8, extras: u8) -> Result<bool, Fail> {
 #[test]
 fn an_activation_out_of_bounds_is_damaged(rt: HostRuntime) -> Result<(), Fail> {
     for (r, extras) in [(0, 0), (3, 0), (1, 4)] {
-        assert!(rt; is_out_of_bounds(rt.alloc(), r, extras)?);
+        assert_eq!(rt; is_out_of_bounds(rt.alloc(), r, extras), Ok(true));
     }
     Ok(())
 }
@@ -171,14 +176,14 @@ const SWAPPED: [u8; 70] = [
 ];
 
 /// How many swaps are shown of it, and whether the spare is.
-fn shows_swapped(alloc: Global) -> Result<(u32, bool), Fail> {
+fn shows_swapped(alloc: Global) -> Result<(u32, bool), RegisterFault> {
     let mut register = register_of(alloc, &SWAPPED)?;
-    Ok(swaps(alloc, &mut register, 1, 6)?)
+    swaps(alloc, &mut register, 1, 6)
 }
 
 #[test]
 fn a_swap_is_read_where_it_changes_an_epoch(rt: HostRuntime) -> Result<(), Fail> {
-    assert_eq!(rt; shows_swapped(rt.alloc())?, (1, true));
+    assert_eq!(rt; shows_swapped(rt.alloc()), Ok((1, true)));
     Ok(())
 }
 
@@ -189,6 +194,6 @@ fn a_swap_that_changes_no_epoch_is_damaged(rt: HostRuntime) -> Result<(), Fail> 
         1, 0, 0, 0, 13, 19, 0, 0, 0, 1, 0, 0, 0, 1, 0, 5, 1, 2, //
         1, 0, 0, 0, 11, 21, 0, 0, 0, 1, 0, 0, 0, 1, 1, 2, 0,
     ];
-    assert!(rt; is_damaged_at(rt.alloc(), &bytes, 18)?);
+    assert_eq!(rt; is_damaged_at(rt.alloc(), &bytes, 18), Ok(true));
     Ok(())
 }
