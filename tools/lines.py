@@ -16,6 +16,10 @@ EVENTS = [
     ("fail 16 1000000", None),
     ("tear 3 4 0f", None),
     ("regfail 100 undone", None),
+    ("calm ", 4),
+    ("calmly", 4),
+    ("cal", 3),
+    ("ca lm", 2),
     ("deliver 01", 9),
     ("format 17", 8),
     ("append a 6", 10),
@@ -141,6 +145,15 @@ NODES = [
     ("--id 1 --port 1 --turns 9 --store t", ""),
 ]
 
+# The same of `node` over three nodes, behind everything but its store and register.
+FILES = [
+    ("--store s --register s", "--store and --register are the same file"),
+    ("--store s --register ./s", "--store and --register are the same file"),
+    ("--store ./s --register s", "--store and --register are the same file"),
+    ("--store .//s --register ././s", "--store and --register are the same file"),
+    ("--store /dev/null --register /dev/../dev/null", "--store and --register are the same file"),
+]
+
 # The same of `append` over the logs 1 and 65,535, behind its configuration and register.
 APPENDS = [
     ("--batches=true --log 1 --port 1 --rounds 1", ""),
@@ -185,6 +198,8 @@ def refused():
         yield line.split(" "), reason
     for line, reason in NODES:
         yield ["node", "--config", NODE, "--store", "s", "--register", "r", *line.split()], reason
+    for line, reason in FILES:
+        yield ["node", "--config", NODE, "--id", "1", "--port", "1", "--turns", "9", *line.split()], reason
     for line, reason in APPENDS:
         yield ["append", "--config", LOGS, "--register", "r", *line.split()], reason
     for line, reason in TAILS:

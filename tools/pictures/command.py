@@ -8,8 +8,11 @@ ROOT = pathlib.Path(__file__).resolve().parent.parent.parent
 
 
 def replay(schedule):
-    """What `./ld replay` prints for a schedule. Status 3 is a line off the grammar: the events before it were run."""
+    """What `./ld replay` prints for a schedule. Status 3 is a syntax error: the events before it were run."""
     done = subprocess.run([str(ROOT / "ld"), "replay"], input=schedule, stdout=subprocess.PIPE)
+    if done.returncode == 1:
+        # there is no program, and ./ld has said why
+        sys.exit(1)
     if done.returncode not in (0, 3):
         sys.exit(f"`ld replay` ended with status {done.returncode}")
     return done.stdout

@@ -12,7 +12,7 @@ MOST_ITEMS, MOST_TEXT, MOST_COLUMNS = 6, 20, 6
 OPENS = {"open": "", "openone": ", one copy of each", "openmsgs": ", as messages"}
 
 # events that write `none` also where they do something
-QUIET = ("drop", "lose", *OPENS, "fail", "tear", "regfail")
+QUIET = ("drop", "lose", *OPENS, "fail", "tear", "regfail", "calm")
 
 
 class Drawing:

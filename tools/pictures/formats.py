@@ -33,7 +33,7 @@ EVENTS = {
     for form in (
         "format N;activate S L;append S HEX;batch S HEX,HEX,..;trim S LSN;retry S;drop S;deliver I;lose I;flow K;open S L LSN LSN;"
         "openone S L LSN LSN;openmsgs S L LSN LSN;poll S;tick N L;down N;up N;wipe N;fail N K;tear N K PICTURE;set L R X NODES;replace N N L;"
-        "regfail K HOW"
+        "regfail K HOW;calm"
     ).split(";")
 }
 

@@ -1,14 +1,15 @@
 """Splits the lines of a transcript into the steps of its schedule.
 
-An event is a step; `flow K` is up to K steps, a delivery each. A transcript doesn't say where a step ends, but the lines of
+An event is a step; `flow K` is up to K steps, a delivery each, and `calm` is several of several kinds (calms.py). A transcript doesn't say where a step ends, but the lines of
 a step are all of one actor, which the event or the message that is delivered names, and each kind of step has lines of
-few kinds, in one order (SHAPES). What the network holds is read from the `msg` lines, so each delivery of a flow is known.
+few kinds, in one order (SHAPES). What the network holds is read from the `msg` lines, so each delivery of a flow or a calm is known.
 Where more than one split is left (items of one reader in deliveries that follow one another), the search goes on to one
 in which all lines find their step.
 """
 import re
 from typing import NamedTuple
 
+from .calms import Calms
 from .formats import Unreadable, home, lsn, named_log, shorten
 
 # a letter for each kind of line
@@ -23,7 +24,7 @@ MESSAGE_LETTERS = {"clean": "C", "release": "R", "trim": "T", "digestask": "G", 
 # what a step may write, by its event, or by who takes which message; nothing but `none` where it isn't here
 SHAPES = {
     "set": "s", "format": "FL*|[DXYZ]", "up": "[UDX]", "down": "D", "wipe": "W", "activate": "aG*|z", "append": "pS*|z", "batch": "pS*|z",
-    "trim": "tT*|z", "retry": "z?c?r?C*R*G*S*", "open": "z", "openone": "z", "openmsgs": "z", "poll": "O+|K*", "tick": "[DXYB]|K+",
+    "trim": "tT*|z", "retry": "z?c?r?C*R*G*S*", "calm": "z?c?r?C*R*G*S*", "open": "z", "openone": "z", "openmsgs": "z", "poll": "O+|K*", "tick": "[DXYB]|K+",
     "replace": "[PZ]",
     "n store": "[DXYM]", "n digestask": "[DXYM]", "n readask": "[DXYM]", "n readone": "[DXYM]", "n clean": "[DXY]", "n trim": "[DXY]",
     "n release": "[DXY]", "n readpage": "[DXY]", "n readtrim": "[DXY]",
@@ -39,8 +40,8 @@ REFUSE_AT_ONCE = 200_000
 
 
 class Step(NamedTuple):
-    """One step: its event, which one of a flow it is, who acts (None: nobody), the message taken (None: none), whether
-    that was new, and its lines from `first` up to `end`."""
+    """One step: its event, which one of a flow or a calm it is, who acts (None: nobody), the message taken (None: none), whether
+    that was new, its lines from `first` up to `end`, and what a calm had left to do before it."""
 
     event: int
     turn: int
@@ -49,6 +50,7 @@ class Step(NamedTuple):
     was_new: bool
     first: int
     end: int
+    left: tuple
 
 
 class Split(NamedTuple):
@@ -64,7 +66,7 @@ def actor_of(event):
         return "s." + event.args[0]
     if event.word in OPENS or event.word == "poll":
         return "r." + event.args[0]
-    return None if event.word in ("set", "regfail") else "n." + event.args[0]
+    return None if event.word in ("set", "regfail", "calm") else "n." + event.args[0]
 
 
 class Splitter:
@@ -84,7 +86,8 @@ class Splitter:
         self.oldest = 0
         self.steps, self.choices, self.pages, self.answers = [], [], {}, {}
         self.event = self.turn = self.line = self.farthest = 0
-        self.stuck = None
+        self.stuck, self.left = None, ()
+        self.calms = Calms(self, schedule.config)
 
     def letter(self, line):
         if line.kind == "msg":
@@ -135,16 +138,18 @@ class Splitter:
             return lsn(one[4]) <= lsn(two[4])
         return int(one[2][2:]) < int(two[2][2:])
 
-    def in_order(self, at, end):
+    def in_order(self, at, end, again=False):
         """How far the messages from `at` on are in the order of one step, each told once, and no number stored at more
-        nodes than a choice has."""
+        nodes than a choice has. Where a calm retries, its number may be released a second time."""
         told, stores, log = set(), {}, self.log_of.get(self.lines[at].actor)
         for k in range(at, end):
             line = self.lines[k]
             if line.kind != "msg":
                 continue
             what = tuple(line.fields[2:])
-            if what in told or (k > at and self.letters[k - 1] == self.letters[k] and not self.rises(self.lines[k - 1], line)):
+            if again and what in told and line.fields[3] == "release":
+                told, again = {one for one in told if one[1] != "release"}, False
+            elif what in told or (k > at and self.letters[k - 1] == self.letters[k] and not self.rises(self.lines[k - 1], line)):
                 return k
             if line.fields[3] == "store":
                 stores[line.fields[4]] = stores.get(line.fields[4], 0) + 1
@@ -158,14 +163,14 @@ class Splitter:
         """Where a step that begins at this line may end, the likeliest end last."""
         at = self.line
         if self.letters[at] == "0":
-            return [at + 1]
+            return [at + 1] if not self.left or self.left[0][0] != "ticks" else self.ticked(at + 1)
         if shape not in SHAPES or self.lines[at].actor != actor:
             return []
         found = SHAPES[shape].match(self.letters, at, self.same[at])
-        end = self.in_order(at, found.end() if found else at)
+        end = self.in_order(at, found.end() if found else at, shape == "calm")
         if end == at:
             return []
-        if shape in ("append", "batch", "retry", "tick"):
+        if shape in ("append", "batch", "retry", "calm", "tick"):
             return [k for k in range(at + 1, end) if self.lines[k].kind == "msg"] + [end]
         if shape[:2] != "r ":
             return [end]
@@ -175,6 +180,19 @@ class Splitter:
         gaps = [k for k in inside if shape == "r readpage" and not self.is_held(actor, message, self.lines[k])]
         likely = gaps[0] if gaps else end
         return [k for k in inside + [end] if k != likely] + [likely]
+
+    def ticked(self, end):
+        """The ends of a tick of a calm that tells nothing: with whether the node ticks again, the likeliest last."""
+        _, log, node = self.left[0]
+        again = self.calms.may_clean(log, f"n.{node}")
+        return [(end, not again), (end, again)]
+
+    def ticks(self, step):
+        """The log and the node of a step that is a tick; None of another one."""
+        event = self.events[step.event]
+        if event.word == "tick":
+            return int(event.args[1]), f"n.{event.args[0]}"
+        return (step.left[0][1], f"n.{step.left[0][2]}") if step.left and step.left[0][0] == "ticks" else None
 
     def goes_on(self, at):
         """Whether a line is a message of the batch whose messages stand before it: they are one item, and of one step."""
@@ -221,13 +239,21 @@ class Splitter:
         while self.event < len(self.events):
             event = self.events[self.event]
             if event.word == "flow":
-                while self.oldest < self.sent[self.line] and not self.is_new[self.oldest]:
-                    self.oldest += 1
-                if self.turn < int(event.args[0]) and self.oldest < self.sent[self.line]:
-                    return self.delivery(self.oldest)
+                message = self.oldest_new()
+                if self.turn < int(event.args[0]) and message is not None:
+                    return self.delivery(message)
                 if self.turn == 0:
                     return "flow", None, None
                 self.event, self.turn = self.event + 1, 0
+                continue
+            if event.word == "calm":
+                if self.turn == 0:
+                    self.left = self.calms.all_left()
+                found = self.calms.next_of(self.left)
+                if found:
+                    step, self.left = found
+                    return step
+                self.event, self.turn, self.left = self.event + 1, 0, ()
                 continue
             if event.word in ("deliver", "lose"):
                 message = int(event.args[0])
@@ -237,6 +263,12 @@ class Splitter:
             return event.word, actor_of(event), None
         return None
 
+    def oldest_new(self):
+        """The oldest new message; None where there is none."""
+        while self.oldest < self.sent[self.line] and not self.is_new[self.oldest]:
+            self.oldest += 1
+        return self.oldest if self.oldest < self.sent[self.line] else None
+
     def delivery(self, message):
         sender, taker, kind, number = self.messages[message].fields[1:]
         shape = f"{taker[0]} {kind}"
@@ -245,11 +277,16 @@ class Splitter:
         return shape, taker, message
 
     def take(self, actor, message, end):
+        end, again = end if isinstance(end, tuple) else (end, False)
         was_new = message is not None and bool(self.is_new[message])
-        self.steps.append(Step(self.event, self.turn, actor, message, was_new, self.line, end))
+        self.steps.append(Step(self.event, self.turn, actor, message, was_new, self.line, end, self.left))
         if was_new:
             self.is_new[message] = 0
         self.remember(self.steps[-1], 1)
+        if self.left:
+            self.left = self.calms.goes_on(self.left, again)
+            self.turn, self.line = self.turn + 1, end
+            return
         self.line = end
         if self.events[self.event].word == "flow" and message is not None:
             self.turn += 1
@@ -266,7 +303,7 @@ class Splitter:
                 if step.was_new:
                     self.is_new[step.message] = 1
                     self.oldest = min(self.oldest, step.message)
-            self.event, self.turn, self.line = step.event, step.turn, step.first
+            self.event, self.turn, self.line, self.left = step.event, step.turn, step.first, step.left
             self.choose(step.actor, step.message, ends)
             return True
         return False

@@ -1,5 +1,5 @@
 -- What a reply, a retry or the register's answer makes a sequencer do leaves it in its bounds.
-use Rattle.std.proofs.Common.{◌≡◌, ◌∙◌, ◌≤◌, ◌<◌, ℕ, ◌+◌, ◌-◌, ◌^◌, refl, sym, subst, Bool, true, false, not, ◌||◌, ◌==◌, cond, nat_lt, nat_le, List, [], ◌∷◌, ◌++◌, length, Option, Some, None, IfSome, arith}
+use Rattle.std.proofs.Common.{◌≡◌, ◌∙◌, ◌≤◌, ◌<◌, ℕ, ◌+◌, ◌-◌, ◌^◌, refl, sym, subst, Bool, true, false, not, ◌||◌, ◌==◌, cond, nat_lt, nat_le, List, [], ◌∷◌, ◌++◌, length, Option, Some, None, is_some, IfSome, arith}
 use Rattle.std.specs.List.{AllByRecursion}
 use Rattle.std.proofs.lemmas.Bool.{cond_both, eqb-true, ltb-true, leb-false}
 use Rattle.ld_table.specs.Table.{find, put}
@@ -18,14 +18,15 @@ use Rattle.ld_msg.specs.declared.msg.Body.TheVariants as bodies
 use Rattle.ld_msg.specs.Bounds.{Is32, IsLng, Is64, IsEpoch, IsSummary, IsPage, Fits}
 use Rattle.ld_msg.specs.Register.{Register, View, Answer, Granted, AtLimit, Behind, Overtaken, Fails, epochs_of, close}
 use Rattle.ld_msg.specs.Digest.{Told, Plan, no_digest, with_page, with_asks, enough, is_spent, plan}
-use Rattle.ld_msg.specs.Sequencer.{Sequencer, Append, Storing, Stage, Seals, Stores, Closes, Recovery, Attempt, Acts, does_nothing, becomes, with_stage, preempt, begun, recovery_of, recovery_asks, goes_on, recovered_nodes, tells_clean, after_close, try_close, storing_of, planned, item_stores, is_fully_ready, is_ready_short, summary_of, stores_plan, closes_ready, settled_by, settles, next_ask, takes_any, seals_on, passes, by_look, looks_now, with_digest, adds_page, digests, lost_stage, recovery_lost, after_lost, loses_node, acked_first, unacked_from, stored_at, with_append, acks_append, in_recovery, by_stored, by_trimmed, by_lost, by_clean, by_reply, unless_preempted, on_reply, raised, next_wave, last_wave, retries_appends, next_try, with_stores, asks_again, retries_stage, retries_recovery, on_retry, of_member, digest_asks, Called, called, acted_messages, release_messages}
+use Rattle.ld_msg.specs.Sequencer.{Sequencer, Append, Storing, Stage, Seals, Stores, Closes, Recovery, Attempt, Acts, does_nothing, becomes, with_stage, preempt, begun, recovery_of, recovery_asks, goes_on, recovered_nodes, tells_clean, after_close, try_close, storing_of, planned, item_stores, is_fully_ready, is_ready_short, summary_of, stores_plan, closes_ready, settled_by, settles, next_ask, takes_any, seals_on, passes, by_look, looks_now, with_digest, adds_page, digests, lost_stage, recovery_lost, after_lost, loses_node, acked_first, unacked_from, stored_at, with_append, acks_append, in_recovery, by_stored, by_trimmed, by_lost, by_clean, by_reply, unless_preempted, on_reply, raised, next_wave, last_wave, retries_appends, next_try, with_stores, asks_again, retries_stage, retries_recovery, on_retry, of_member, digest_asks, Called, called, acted_messages, release_messages, released_of, to_each}
 use Rattle.ld_sequencer_bounds.specs.Sequencers.{IsAppend, IsTold, IsStoring, Posts}
 use Rattle.ld_bounds.specs.Registers.{IsRegister, IsLook}
 use Rattle.ld_bounds.specs.Sequencers.{IsInWave, IsStage, IsRecovery, MayRecover, IsSequencer, AreNumbered}
 use Rattle.ld_node_bounds.proofs.Alls.{all-append, all-put, all-find}
 use Rattle.ld_node_bounds.proofs.Numbers.{home_at_most}
 use Rattle.ld_bounds.proofs.Rows.{put_kept, acked_parts, unacked_numbered, all-unacked, raised_length, raised_numbered, raised_are, raised_waves}
-use Rattle.ld_node_bounds.proofs.Posts.{IsPost}
+use Rattle.ld_node_bounds.proofs.Posts.{IsPost, each_post}
+use Rattle.ld_machine.specs.Calm.{announcements, calm_messages}
 use Rattle.ld_sequencer_bounds.proofs.Plans.{no_digest_is, with_page_is, with_asks_is, with_lost_is, plan_is, settled_is}
 use Rattle.ld_sequencer_bounds.proofs.Sends.{asks_are, next_ask_is, items_sent, cleans_sent, appends_sent, releases_sent, released_bound}
 use Rattle.ld_bounds.proofs.Configs.{spec_nodes}
@@ -379,3 +380,20 @@ acted_sent c n old a E A =
     all-append (IsPost (whos.Sequencer old.epoch)) a.cleans (release_messages old a.sequencer ++ (a.asks ++ a.stores)) cl
     (all-append (IsPost (whos.Sequencer old.epoch)) (release_messages old a.sequencer) (a.asks ++ a.stores) rel
     (all-append (IsPost (whos.Sequencer old.epoch)) a.asks a.stores asks st))
+
+-- and where the released number is told again
+pub calms_sent : (c : Config) (n : Register) (old : Sequencer) (a : Acts) → IsEpoch old.epoch → IsActs c n old a → Posts old.epoch (calm_messages old a)
+calms_sent c n old a E A =
+    let m = A.sequencer.numbers in
+    let b = released_bound a.sequencer A.sequencer.epoch (omega arith) in
+    let ns = spec_nodes c a.sequencer.log a.sequencer.spec A.sequencer.spec in
+    let rel = releases_sent old.epoch E old a.sequencer b ns in
+    let again = cond_both (is_some a.sequencer.preempted) [] (to_each (bodies.Release (released_of a.sequencer)) (nodes_of a.sequencer.spec)) (AllByRecursion (IsPost (whos.Sequencer old.epoch)))
+    (λ t. tt) (λ t. each_post (whos.Sequencer old.epoch) (bodies.Release (released_of a.sequencer)) (nodes_of a.sequencer.spec) (λ y h. ((E, h), b)) ns) in
+    let cl = subst (λ e. Posts e a.cleans) A.epoch A.cleans in
+    let asks = subst (λ e. Posts e a.asks) A.epoch A.asks in
+    let st = subst (λ e. Posts e a.stores) A.epoch A.stores in
+    all-append (IsPost (whos.Sequencer old.epoch)) a.cleans (release_messages old a.sequencer ++ (announcements a.sequencer ++ (a.asks ++ a.stores))) cl
+    (all-append (IsPost (whos.Sequencer old.epoch)) (release_messages old a.sequencer) (announcements a.sequencer ++ (a.asks ++ a.stores)) rel
+    (all-append (IsPost (whos.Sequencer old.epoch)) (announcements a.sequencer) (a.asks ++ a.stores) again
+    (all-append (IsPost (whos.Sequencer old.epoch)) a.asks a.stores asks st)))

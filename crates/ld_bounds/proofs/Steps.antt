@@ -28,7 +28,7 @@ use Rattle.ld_msg.specs.Bounds.{Is64, IsEpoch, Fits, IsMessage}
 use Rattle.ld_msg.specs.Network.{Network, send, send_all, message, oldest_new, posted}
 use Rattle.ld_msg.specs.Choice.{choice}
 use Rattle.ld_msg.specs.Register.{Register, Epochs, Answer, Granted, AtLimit, Behind, Overtaken, Fails, epochs_of, epochs_in, generation_of, lce_of, activate, draw, swap, swappable}
-use Rattle.ld_msg.specs.Sequencer.{Sequencer, Acts, called, acted_messages, on_reply, on_retry, released_of, to_each, activated, bare, recovery_asks, Appending, TooLong, Preempted, EpochFull, WindowFull, Numbered, or_preempted, appending, appended, fresh_append, first_stores, next_esn, payload_limit, window_limit}
+use Rattle.ld_msg.specs.Sequencer.{Sequencer, Acts, Called, called, acted_messages, on_reply, on_retry, released_of, to_each, activated, bare, recovery_asks, Appending, TooLong, Preempted, EpochFull, WindowFull, Numbered, or_preempted, appending, appended, fresh_append, first_stores, next_esn, payload_limit, window_limit}
 use Rattle.ld_msg.specs.declared.style.Style.{Style}
 use Rattle.ld_msg.specs.declared.style.Style.TheVariants as styles
 use Rattle.ld_msg.specs.Reader.{Reader, Read, opened, is_finished, polled, poll_asks, on_answer}
@@ -42,6 +42,7 @@ use Rattle.ld_machine.specs.Disk.{Node, Kept, Written, DiskFailed, Crashed, Jour
 use Rattle.ld_machine.specs.State.{State, Done, Stepped, sent_state, start, new_nodes, finish, unchanged, only_state, with_line, node_at, with_node, with_register, with_sequencer, with_reader, sequencer_of, reader_of}
 use Rattle.ld_machine.specs.Step as Step
 use Rattle.ld_machine.specs.Step.{happens, delivers}
+use Rattle.ld_machine.specs.Calm.{Move, Takes, Calms, Left, Announces, Settles, Ticks, Reads, Drains, Again, Next, moves, moved, event_of, calms_acts, calm_messages, last_of, goes, announces, delivers_in, reads, asks_again, next_of, all_left, calm_fuel, calmed}
 use Rattle.ld_machine.specs.Run.{flows, step, state_after}
 use Rattle.ld_sequencer_bounds.specs.Sequencers.{IsAppend}
 use Rattle.ld_bounds.specs.Specs.{IsSpecFor, IsSetFor}
@@ -66,7 +67,7 @@ use Rattle.ld_node_bounds.proofs.Posts.{posts_sent}
 use Rattle.ld_sequencer_bounds.proofs.Posts.{choice_nodes}
 use Rattle.ld_bounds.proofs.Rows.{numbered_end, length_end}
 use Rattle.ld_sequencer_bounds.proofs.Sends.{append_sent, trims_sent, released_bound}
-use Rattle.ld_bounds.proofs.SequencerActs.{IsActs, lng_is, first_recovery, first_asks, reply_is, retry_is, grown, dropped_is, called_is, acted_sent}
+use Rattle.ld_bounds.proofs.SequencerActs.{IsActs, lng_is, first_recovery, first_asks, reply_is, retry_is, grown, dropped_is, called_is, acted_sent, calms_sent}
 use Rattle.ld_bounds.proofs.Asks.{from_node, polled_is, poll_sent, answer_is, opened_is}
 use Rattle.ld_bounds.proofs.Places.{distinct-put, length-there, length-put, places-there, places-new, reader_found, number_found, reader_named, sequencer_found, epoch_found}
 use Rattle.ld_node_bounds.proofs.Ticking.{ticked_is, asks_sent}
@@ -86,6 +87,30 @@ message_by false w i m a h = absurd cc
 pub message_in : (w : Network) (i : ℕ) (m : Msg) → AreMessages w.sent → message w i ≡ Some m → IsMessage m
 unfolding message
 message_in w i m a h = message_by (nat_lt i w.count) w i m a h
+
+-- ---- the steps of a calm ----
+moved_goes : (m : Move) (ps : List Left) (x : Next) → IsEvent (event_of m) → goes m ps ≡ Some x → IsEvent (event_of x.move)
+moved_goes m ps x i h = let e : record { move = m; left = ps } ≡ x = cc in subst (λ (n : Next). IsEvent (event_of n.move)) e i
+
+either_goes : (b : Bool) (o : Option Next) (m : Move) (ps : List Left) (x : Next) → (o ≡ Some x → IsEvent (event_of x.move)) → IsEvent (event_of m) → cond b o (goes m ps) ≡ Some x → IsEvent (event_of x.move)
+either_goes true o m ps x f i h = f h
+either_goes false o m ps x f i h = moved_goes m ps x i h
+
+announces_goes : (q : Option (List ℕ × Sequencer)) (ps : List Left) (x : Next) (o : Option Next) → (o ≡ Some x → IsEvent (event_of x.move)) → announces q ps o ≡ Some x → IsEvent (event_of x.move)
+announces_goes None ps x o f h = f h
+announces_goes (Some q) ps x o f h = either_goes q.1.gone o (Calms q.0) ps x f tt h
+
+reads_goes : (name : List ℕ) (d : Option Reader) (ps : List Left) (x : Next) (o : Option Next) → (o ≡ Some x → IsEvent (event_of x.move)) → reads name d ps o ≡ Some x → IsEvent (event_of x.move)
+reads_goes name None ps x o f h = f h
+reads_goes name (Some d) ps x o f h = either_goes (is_finished d) o (Takes (events.Poll name)) (Drains ∷ Again name d.next ∷ ps) x f tt h
+
+again_goes : (name : List ℕ) (next : ℕ) (d : Option Reader) (ps : List Left) (x : Next) (o : Option Next) → (o ≡ Some x → IsEvent (event_of x.move)) → asks_again name next d ps o ≡ Some x → IsEvent (event_of x.move)
+again_goes name next None ps x o f h = f h
+again_goes name next (Some d) ps x o f h = either_goes (d.next == next) o (Takes (events.Poll name)) (Drains ∷ Again name d.next ∷ ps) x f tt h
+
+delivers_goes : (n : Option ℕ) (p : Left) (ps : List Left) (x : Next) (o : Option Next) → (o ≡ Some x → IsEvent (event_of x.move)) → delivers_in n p ps o ≡ Some x → IsEvent (event_of x.move)
+delivers_goes None p ps x o f h = f h
+delivers_goes (Some i) p ps x o f h = moved_goes (Takes (events.Deliver i)) (p ∷ ps) x tt h
 
 module _ (c : Config) where
   pub sent_is : (s : State) (ms : List Msg) → IsSound c s → AreMessages ms → IsSound c (sent_state s ms)
@@ -199,6 +224,17 @@ module _ (c : Config) where
 
         k_register : Register
         k_register = (called (looks_at c s.register q.log) s.register a a.tries).register
+
+      calms_is : (name : List ℕ) (q : Sequencer) → IsSequencer c s.register q → IsDoneSoundly c (calms_acts c s name q (on_retry (looks_at c s.register q.log) q))
+      calms_is name q Q = let L = looks_are q.log Q.log in let A = retry_is c s.register q (looks_at c s.register q.log) L q Q refl refl in let k = called_is c s.register S.register q (looks_at c s.register q.log) L retry retry.tries A.tries A in record {
+        state = both_put s S name call.acts.sequencer call.register k.register k.acts.sequencer;
+        sends = posts_sent (whos.Sequencer q.epoch) q.log (calm_messages q call.acts) (log_is c B q.log Q.log) (calms_sent c call.register q call.acts Q.epoch k.acts);
+      } where
+        retry : Acts
+        retry = on_retry (looks_at c s.register q.log) q
+
+        call : Called
+        call = called (looks_at c s.register q.log) s.register retry retry.tries
 
       to_live : (name : List ℕ) (q : Sequencer) (m : Msg) → IsSequencer c s.register q → Fits m.from (whos.Sequencer q.epoch) m.body → IsDoneSoundly c (Step.to_live c s name q m)
       to_live name q m Q f = either s S q.gone (unchanged s) (Step.acted c s name q (on_reply (looks_at c s.register q.log) q (Step.sender_node m.from) m.body)) (λ t. quietly s S)
@@ -438,7 +474,13 @@ module _ (c : Config) where
     happens_is s (events.Tear n k picture) i S = where_node s S n true _ (λ h. node_done s S n (Step.with_fault (node_at s n) (record { left = k; crash = Some picture })) [] h (fault_is (node_at s n) (node_is_sound s S n) (record { left = k; crash = Some picture })))
     happens_is s (events.Set l r x set) i S = sets_is s S l r x set i
     happens_is s (events.Replace n other l) i S = replaces_is s S n other l
+    happens_is s events.Calm i S = quietly s S
     happens_is s (events.RegFail k done) i S = record { state = register_put s S (Step.armed s.register k done) (follows_same c s.register s.register (Step.armed s.register k done) (refl, refl) (follows_self c s.register S.register)); sends = tt }
+
+    -- ---- each step of a run ----
+    pub move_is : (s : State) (m : Move) → IsEvent (event_of m) → IsSound c s → IsDoneSoundly c (moves c s m)
+    move_is s (Takes e) i S = happens_is s e i S
+    move_is s (Calms name) i S = live s S name (λ q. calms_acts c s name q (on_retry (looks_at c s.register q.log) q)) (λ q Q. calms_is s S name q Q)
 
     -- ---- steps and runs ----
     pub delivery_is : (s : State) (i : ℕ) → IsSound c s → IsSound c (finish (delivers c s i)).state
@@ -459,6 +501,33 @@ module _ (c : Config) where
     unfolding flowing
     flows_is zero s S = S
     flows_is (suc k) s S = flowing_is k s (oldest_new s.network) S (λ t T. flows_is k t T)
+
+    -- a calm makes a step that no event makes, deliveries, ticks and polls
+    goes_is : (s : State) (ps : List Left) (x : Next) → next_of c s ps ≡ Some x → IsEvent (event_of x.move)
+    unfolding next_of
+    goes_is s [] x h = absurd cc
+    goes_is s (Announces l ∷ ps) x h = announces_goes (last_of s l) ps x (next_of c s ps) (λ j. goes_is s ps x j) h
+    goes_is s (Settles l ∷ ps) x h = delivers_goes (oldest_new s.network) (Settles l) ps x (next_of c s ps) (λ j. goes_is s ps x j) h
+    goes_is s (Ticks l n ∷ ps) x h = moved_goes (Takes (events.Tick n l)) _ x tt h
+    goes_is s (Reads name ∷ ps) x h = reads_goes name (find_named name s.readers) ps x (next_of c s ps) (λ j. goes_is s ps x j) h
+    goes_is s (Drains ∷ ps) x h = delivers_goes (oldest_new s.network) Drains ps x (next_of c s ps) (λ j. goes_is s ps x j) h
+    goes_is s (Again name next ∷ ps) x h = again_goes name next (find_named name s.readers) ps x (next_of c s ps) (λ j. goes_is s ps x j) h
+
+    calming : ℕ → State → Option Next → Stepped
+    calming k s o = elim o as (λ _. Stepped) [
+      | None ↦ record { state = s; lines = [] }
+      | Some x ↦ (let r : Stepped = moved c s x.move in let rest : Stepped = calmed k c r.state x.left in record { state = rest.state; lines = r.lines ++ rest.lines })
+    ]
+
+    calming_is : (k : ℕ) (s : State) (o : Option Next) → ((x : Next) → o ≡ Some x → IsEvent (event_of x.move)) → IsSound c s → ((t : State) (ps : List Left) → IsSound c t → IsSound c (calmed k c t ps).state) → IsSound c (calming k s o).state
+    unfolding calming
+    calming_is k s None h S f = S
+    calming_is k s (Some x) h S f = f (moved c s x.move).state x.left (finish_is (moves c s x.move) (move_is s x.move (h x refl) S))
+
+    calmed_is : (k : ℕ) (s : State) (ps : List Left) → IsSound c s → IsSound c (calmed k c s ps).state
+    unfolding calming calmed
+    calmed_is zero s ps S = S
+    calmed_is (suc k) s ps S = calming_is k s (next_of c s ps) (λ x h. goes_is s ps x h) S (λ t qs T. calmed_is k t qs T)
 
     one_is : (s : State) (e : Event) → IsEvent e → IsSound c s → IsSound c (finish (happens c s e)).state
     one_is s e i S = finish_is (happens c s e) (happens_is s e i S)
@@ -487,6 +556,7 @@ module _ (c : Config) where
     step_is s (events.Tear n k picture) i S = one_is s (events.Tear n k picture) i S
     step_is s (events.Set l r x set) i S = one_is s (events.Set l r x set) i S
     step_is s (events.Replace n other l) i S = one_is s (events.Replace n other l) i S
+    step_is s events.Calm i S = calmed_is (calm_fuel c s) s (all_left c s) S
     step_is s (events.RegFail k done) i S = one_is s (events.RegFail k done) i S
 
     -- ---- the start ----

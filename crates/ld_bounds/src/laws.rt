@@ -16,6 +16,7 @@ ghost use Rattle.ld_op.specs.Bounds.{AreEpochs};
 ghost use Rattle.ld_machine.specs.Config.{has_log, first_spec, looks_at, spec_of};
 ghost use Rattle.ld_machine.specs.State.{State, start, finish, node_at, sent_state, sequencer_of, reader_of};
 ghost use Rattle.ld_machine.specs.Step.{happens, delivers, marked, spec_set};
+ghost use Rattle.ld_machine.specs.Calm.{Move, event_of, moves, moved};
 ghost use Rattle.ld_machine.specs.Run.{step, state_after};
 ghost use Rattle.ld_bounds.specs.Specs.{IsSpecFor};
 ghost use Rattle.ld_bounds.specs.Registers.{IsLook};
@@ -35,6 +36,12 @@ pub fn start_is_sound()
 /// What an event does to a sound state leaves a sound one, and it sends messages that a frame can carry.
 pub fn events_are_sound()
     ensures { (c : Config) (s : State) (e : Happening) → IsInBounds c → IsEvent e → IsSound c s → IsDoneSoundly c (happens c s e) }
+{}
+
+/// What a step of a run does to a sound state, of a calm too, leaves a sound one, and it sends messages that a frame can carry.
+pub fn moves_are_sound()
+    ensures done { (c : Config) (s : State) (m : Move) → IsInBounds c → IsEvent (event_of m) → IsSound c s → IsDoneSoundly c (moves c s m) }
+    ensures state { (c : Config) (s : State) (m : Move) → IsInBounds c → IsEvent (event_of m) → IsSound c s → IsSound c (moved c s m).state }
 {}
 
 /// What a delivery does to a sound state leaves a sound one, and it sends messages that a frame can carry.

@@ -20,6 +20,7 @@ use Rattle.ld_config.specs.declared.config.Config.{Config}
 use Rattle.ld_machine.specs.Config.{looks_at}
 use Rattle.ld_machine.specs.State.{State, Done, unchanged, only_state, with_line, with_sequencer, posted}
 use Rattle.ld_machine.specs.Step as step
+use Rattle.ld_machine.specs.Calm.{calms_acts, calms_with}
 use Rattle.ld_recovery.specs.Recovering.{sender_of}
 use Rattle.ld_register.specs.declared.fault.RegisterFault.TheVariants as registers
 use Rattle.ld_sequencer.specs.declared.fault.SequencerFault.{SequencerFault}
@@ -34,6 +35,8 @@ use Rattle.ld_clients.specs.declared.outcome.Outcome.{Outcome}
 use Rattle.ld_clients.specs.Serving.{faded, shown, log_in, epoch_in, IsWhole, IsWholeIn, GoesOn, Knows, KnowsIn}
 use Rattle.ld_clients.specs.Acting.{IsNamed, HasActed, Stays, report_lines}
 use Rattle.ld_clients.specs.Refusing.{fault_lines, told_lines}
+use Rattle.ld_sequencer.specs.Announcing.{announced}
+use Rattle.ld_clients.proofs.Announcing.{announced_is, retried_kinds}
 use Rattle.ld_clients.proofs.Fading.{unfaded, found_live, found_some}
 use Rattle.ld_clients.proofs.Names.{put_same}
 use Rattle.ld_clients.proofs.Rows.{if_not}
@@ -231,6 +234,35 @@ module _ (c : Config) (s : State) (name : List ℕ) (k : Client) (h : IsNamed c 
       → (r ≢ Err faults.NoMemory) → is_crowded s.register (log_in k) ≡ false → old ≡ [] → o.lines.items ≡ told_lines name r → o.sends ≡ new
       → HasActed s name (Live v) o told (step.on_live s (Some (shown k)) (λ x. step.acted c s name x (on_retry (looks_at c s.register x.log) x)))
   retry_done r v g old new o told t x m room b ls ms = answered_done r v g old new retried o told _ retry_row t x m room b ls ms
+
+  -- a retry that tells the released number again
+  calm_row : step.on_live s (Some (shown k)) (λ x. calms_acts c s name x (on_retry (looks_at c s.register x.log) x)) ≡ calms_with s name q (called_by w s.register retried)
+  calm_row = live_row (λ x. calms_acts c s name x (on_retry (looks_at c s.register x.log) x))
+      ∙ ap (λ (f : ℕ → View). calms_with s name q (called f s.register (on_retry f q) (on_retry f q).tries)) looks_are
+
+  calm_told : (v : Whole) → GoesOn k (Live v) → (r : Report) (old new : List Msg) (o : Outcome) (told : Register → Type 0)
+      → Acted w v r old new (called_by w s.register retried).acts → told (called_by w s.register retried).register → old ≡ [] → o.lines.items ≡ report_lines name r → o.sends ≡ announced v new
+      → HasActed s name (Live v) o told (calms_with s name q (called_by w s.register retried))
+  calm_told v g r old new o told t u b ls ms =
+      let m : GoesOn (Live w) (Live v) = subst (λ (x : Client). GoesOn x (Live v)) is g in
+      let same : v.sequencer ≡ (called_by w s.register retried).acts.sequencer = ap (λ (x : Whole). x.sequencer) t.now in
+      record {
+        sequencer = (called_by w s.register retried).acts.sequencer;
+        seen = seen_now v (called_by w s.register retried).acts.sequencer same (ap (λ (x : Sequencer). x.gone) (sym same) ∙ (m.remains.gone ∙ live));
+        state = refl;
+        register = u;
+        lines = ls ∙ told_as name w v r old new (called_by w s.register retried).acts t;
+        sends = ms ∙ (ap (announced v) (t.sent ∙ ap (λ x. x ++ sent_as w (acted_messages q (called_by w s.register retried).acts)) b)
+            ∙ announced_is w v (called_by w s.register retried).acts same m.epoch m.log (retried_kinds (looks_of w s.register) s.register q));
+      }
+
+  pub calm_done : (r : Result Report SequencerFault) (v : Whole) → GoesOn k (Live v) → (old new : List Msg) (o : Outcome) (told : Register → Type 0)
+      → IfOk r (λ report. Acted w v report old new (called_by w s.register retried).acts × told (called_by w s.register retried).register)
+      → IfErr r (λ fault. (fault ≡ faults.NoMemory) ⊎ ((fault ≡ faults.Register registers.LogLimit) × (is_crowded s.register q.log ≡ true) × told s.register))
+      → (r ≢ Err faults.NoMemory) → is_crowded s.register (log_in k) ≡ false → old ≡ [] → o.lines.items ≡ told_lines name r → o.sends ≡ announced v new
+      → HasActed s name (Live v) o told (step.on_live s (Some (shown k)) (λ x. calms_acts c s name x (on_retry (looks_at c s.register x.log) x)))
+  calm_done (Ok report) v g old new o told t x m room b ls ms = acted_as v o told _ _ calm_row (calm_told v g report old new o told t.0 t.1 b ls ms)
+  calm_done (Err fault) v g old new o told t x m room b ls ms = absurd (crowded (Err fault) fault (told s.register) refl m room x)
 
   pub reply_done : (m : Msg) (r : Result Report SequencerFault) (v : Whole) → GoesOn k (Live v) → (old new : List Msg) (o : Outcome) (told : Register → Type 0)
       → IfOk r (λ report. Acted w v report old new (called_by w s.register (replied m)).acts × told (called_by w s.register (replied m)).register)

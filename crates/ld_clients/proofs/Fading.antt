@@ -12,15 +12,15 @@ use Rattle.ld_clients.proofs.Rows.{if_yes}
 
 -- ---- one sequencer ----
 
-log_at : (b : Bool) (q : Sequencer) → (if b then gone_of q.log q.epoch else q).log ≡ q.log
+pub log_at : (b : Bool) (q : Sequencer) → (if b then gone_of q.log q.epoch else q).log ≡ q.log
 log_at true q = refl
 log_at false q = refl
 
-epoch_at : (b : Bool) (q : Sequencer) → (if b then gone_of q.log q.epoch else q).epoch ≡ q.epoch
+pub epoch_at : (b : Bool) (q : Sequencer) → (if b then gone_of q.log q.epoch else q).epoch ≡ q.epoch
 epoch_at true q = refl
 epoch_at false q = refl
 
-gone_at : (b : Bool) (q : Sequencer) → q.gone ≡ b → (if b then gone_of q.log q.epoch else q).gone ≡ q.gone
+pub gone_at : (b : Bool) (q : Sequencer) → q.gone ≡ b → (if b then gone_of q.log q.epoch else q).gone ≡ q.gone
 gone_at true q h = sym h
 gone_at false q h = refl
 

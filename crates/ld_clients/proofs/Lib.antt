@@ -1,10 +1,12 @@
 pub mod Acting
 pub mod Activating
+pub mod Announcing
 pub mod Bounds
 pub mod Fading
 pub mod Followings
 pub mod Items
 pub mod Keeping
+pub mod Latest
 pub mod Logs
 pub mod Names
 pub mod Placing
@@ -13,3 +15,4 @@ pub mod Refusing
 pub mod Rows
 pub mod Serving
 pub mod Standing
+pub mod Opened

@@ -10,6 +10,7 @@ use Rattle.ld_batch.specs.Batch.{packed}
 use Rattle.ld_machine.specs.Config.{looks_at}
 use Rattle.ld_machine.specs.State.{State, Done, unchanged, only_state, with_sequencer, sequencer_of}
 use Rattle.ld_machine.specs.Step as step
+use Rattle.ld_machine.specs.Calm.{Calms, calms_acts, moves}
 use Rattle.ld_clients.specs.declared.client.Client.{Client}
 use Rattle.ld_clients.specs.declared.outcome.Outcome.{Outcome}
 use Rattle.ld_clients.specs.Names.{each_as}
@@ -89,6 +90,13 @@ module _ (c : Config) (s : State) (ks : List (List ℕ × Client)) (a : AreSeque
         → HasActed s name g o told (step.on_live s (Some (shown k)) (λ q. step.acted c s name q (on_retry (looks_at c s.register q.log) q))) → IsActed s gs o told (step.happens c s (events.Retry name))
     unfolding step.happens
     retry_somebody told k g gs e q h = somebody name (λ q. step.acted c s name q (on_retry (looks_at c s.register q.log) q)) o told k g gs e q h
+
+    pub calm_nobody : (told : Register → Type 0) → find_named name ks ≡ None → told s.register → o.lines.items ≡ [] → o.sends ≡ [] → IsActed s ks o told (moves c s (Calms name))
+    calm_nobody told e t ls ms = nobody name (λ q. calms_acts c s name q (on_retry (looks_at c s.register q.log) q)) o told e t ls ms
+
+    pub calm_somebody : (told : Register → Type 0) (k g : Client) (gs : List (List ℕ × Client)) → find_named name ks ≡ Some k → gs ≡ put_named name g ks
+        → HasActed s name g o told (step.on_live s (Some (shown k)) (λ q. calms_acts c s name q (on_retry (looks_at c s.register q.log) q))) → IsActed s gs o told (moves c s (Calms name))
+    calm_somebody told k g gs e q h = somebody name (λ q. calms_acts c s name q (on_retry (looks_at c s.register q.log) q)) o told k g gs e q h
 
     pub drop_nobody : find_named name ks ≡ None → o.lines.items ≡ [] → o.sends ≡ [] → IsActed s ks o (Stays s) (step.happens c s (events.Drop name))
     unfolding step.happens

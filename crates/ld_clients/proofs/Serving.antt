@@ -21,11 +21,11 @@ Serving = List (List ℕ × Client)
 abbrev pub as_shown : List ℕ × Client → List ℕ × Sequencer
 as_shown k = entry_as shown k
 
-log_shown : (k : Client) → (shown k).log ≡ log_in k
+pub log_shown : (k : Client) → (shown k).log ≡ log_in k
 log_shown (Live w) = refl
 log_shown (Gone l e) = refl
 
-epoch_shown : (k : Client) → (shown k).epoch ≡ epoch_in k
+pub epoch_shown : (k : Client) → (shown k).epoch ≡ epoch_in k
 epoch_shown (Live w) = refl
 epoch_shown (Gone l e) = refl
 

@@ -8,3 +8,4 @@ pub mod Places
 pub mod Reads
 pub mod Refusing
 pub mod Serving
+pub mod Latest

@@ -4,6 +4,7 @@ ghost use Rattle.ld_config.specs.declared.config.Config.{Config as Contents};
 ghost use Rattle.ld_msg.specs.Bounds.{IsMessage};
 ghost use Rattle.ld_msg.specs.Register.{is_crowded};
 ghost use Rattle.ld_msg.specs.Sequencer.{appending, on_retry};
+ghost use Rattle.ld_machine.specs.Calm.{calms_acts};
 ghost use Rattle.ld_machine.specs.Config.{looks_at};
 ghost use Rattle.ld_machine.specs.State.{State};
 ghost use Rattle.ld_machine.specs.Step.{on_live, append_done, trim_done, acted, to_live};
@@ -44,6 +45,18 @@ impl Client {
         match self {
             Client::Live(sequencer) => sequencer.spec().log,
             Client::Gone { log, .. } => *log,
+        }
+    }
+
+    /// Whether it was dropped.
+    #[tactic(auto, using(crate::proofs::Latest::gone_rules))]
+    pub(crate) fn is_gone(&self) -> bool
+        requires { IsWholeIn self.now }
+        ensures { result ≡ (shown self.now).gone }
+    {
+        match self {
+            Client::Live(_) => false,
+            Client::Gone { .. } => true,
         }
     }
 
@@ -141,6 +154,30 @@ impl Client {
         };
         let mut sends = Outbox::empty(alloc);
         let answer = sequencer.retry(alloc, reg, &mut sends);
+        let outcome = told(alloc, name, answer, sends)?;
+        Ok(outcome)
+    }
+
+    /// Does what a retry does, and tells the released number once more. After want of memory it is of no use.
+    pub(crate) fn calm<G: Register>(
+        &mut self,
+        alloc: Global,
+        name: &Name,
+        reg: &mut G,
+    ) -> Result<Outcome, NoMemory>
+        requires { IsWholeIn self.old }
+        ensures done { IfOk result (λ outcome. (c : Contents) (s : State) → IsNamed c s name.now self.old
+            → G.tells reg.old s.register → is_crowded s.register (log_in self.old) ≡ false
+            → HasActed s name.now self.new outcome (G.tells reg.new)
+            (on_live s (Some (shown self.old)) (λ q. calms_acts c s name.now q (on_retry (looks_at c s.register q.log) q)))) }
+        ensures goes_on { OnOk result (GoesOn self.old self.new) }
+    {
+        let Client::Live(sequencer) = self else {
+            return Ok(Outcome::nothing(alloc));
+        };
+        let mut sends = Outbox::empty(alloc);
+        let answer = sequencer.retry(alloc, reg, &mut sends);
+        let sends = sequencer.announce(sends)?;
         let outcome = told(alloc, name, answer, sends)?;
         Ok(outcome)
     }

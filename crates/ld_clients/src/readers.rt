@@ -1,5 +1,5 @@
 // The readers by name, in the order of their opening.
-ghost use Rattle.std.specs.Prelude.{◌≡◌, ◌≤◌, ◌⊎◌, is_some, ℕ, List, [], Some, None, IfOk, IfErr, OnOk, OnErr, IsErrOf, length, option_copied, option_map};
+ghost use Rattle.std.specs.Prelude.{◌≡◌, ◌≤◌, ◌⊎◌, is_some, ℕ, List, [], ◌∷◌, ◌++◌, Some, None, IfOk, IfErr, OnOk, OnErr, IsErrOf, length, option_copied, option_map};
 ghost use Rattle.ld_io.specs.Causes.{Rose};
 ghost use Rattle.ld_table.specs.Named.{find_named, put_named};
 ghost use Rattle.ld_msg.specs.Register.{Register as Contents, View};
@@ -9,13 +9,14 @@ ghost use Rattle.ld_register.specs.declared.fault.RegisterFault.TheVariants as r
 ghost use Rattle.ld_reader.specs.Faults.{IsOfLook};
 ghost use Rattle.ld_reader.specs.Following.{Following, asked, replied};
 ghost use Rattle.ld_reader.specs.Looks.{looks_of};
+ghost use Rattle.ld_machine.specs.Calm.{readers_of as readers_for};
 ghost use Rattle.ld_machine.specs.State.{reader_of};
 ghost use Rattle.ld_clients.specs.Finished.{finished_in};
 ghost use Rattle.ld_clients.specs.Followers.{reader_in, readers_of};
 ghost use Rattle.ld_clients.specs.Reads.{HasRead};
 
 use indexmap::IndexMap;
-use ld_ids::{Name, NoMemory};
+use ld_ids::{LogId, Name, NoMemory};
 use ld_msg::{Msg, Outbox, Style};
 use ld_reader::{Items, Reader, ReaderFault};
 use ld_register::Register;
@@ -74,6 +75,31 @@ impl Readers {
             Some(reader) => reader.finished(),
             None => false,
         }
+    }
+
+    /// The next number of the reader of the name, and the one behind its last where it is finished. None where it isn't there.
+    #[tactic(auto, unfolding(ld_table::specs::Named::find_named, ld_table::specs::Named::same))]
+    pub fn next_of(&self, name: &Name) -> Option<u128>
+        ensures { result ≡ option_map (λ f. f.reader.next) (find_named name.now self.now) }
+    {
+        match self.map.get(name) {
+            Some(reader) => Some(reader.next_number()),
+            None => None,
+        }
+    }
+
+    /// The names of the log's readers, in the order of their opening.
+    pub fn names(&self, alloc: Global, log: LogId) -> Result<Vec<Name>, NoMemory>
+        ensures { IfOk result (λ names. names.items ≡ readers_for log (readers_of self.now)) }
+    {
+        let mut names = Vec::new(alloc);
+        'readers: for place in 0..self.map.len() {
+            let Some((name, reader)) = self.map.get_index(place) else {
+                return Ok(names);
+            };
+            add_name(alloc, name, reader, log, &mut names)?;
+        }
+        Ok(names)
     }
 
     /// How the reader of the name reads.
@@ -176,4 +202,22 @@ impl Readers {
         };
         reader.on_reply(alloc, msg, reg, sends)
     }
+}
+
+/// Adds a reader's name, where it reads the log.
+#[tactic(auto, using(crate::proofs::Opened::name_rules))]
+fn add_name(
+    alloc: Global,
+    name: &Name,
+    reader: &Reader,
+    log: LogId,
+    names: &mut Vec<Name>,
+) -> Result<(), NoMemory>
+    ensures { OnOk result (names.new.items ≡ names.old.items ++ readers_for log ((name.now, reader.now.reader) ∷ [])) }
+{
+    if reader.log() == log {
+        let copy = name.copy(alloc)?;
+        names.push(copy)?;
+    }
+    Ok(())
 }

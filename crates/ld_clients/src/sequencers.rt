@@ -6,6 +6,7 @@ ghost use Rattle.ld_schedule.specs.declared.event.Event.TheVariants.{Activate, A
 ghost use Rattle.ld_transcript.specs.declared.line.Line.TheVariants.{Active};
 ghost use Rattle.ld_table.specs.Named.{find_named, put_named};
 ghost use Rattle.ld_msg.specs.Bounds.{IsMessage};
+ghost use Rattle.ld_machine.specs.Calm.{Calms, last_in, moves};
 ghost use Rattle.ld_machine.specs.State.{State, sequencer_of};
 ghost use Rattle.ld_machine.specs.Config.{has_log};
 ghost use Rattle.ld_machine.specs.Step.{happens, spec_set, to_sequencer, to_live};
@@ -13,6 +14,7 @@ ghost use Rattle.ld_register.specs.Bounds.{IsSpecFor};
 ghost use Rattle.ld_clients.specs.declared.client.Client.{Client as Seen};
 ghost use Rattle.ld_clients.specs.declared.client.Client.TheVariants.{Live};
 ghost use Rattle.ld_clients.specs.Acting.{AreSequencers, IsActed, Stays};
+ghost use Rattle.ld_clients.specs.Latest.{client_at, last_client, later_at, live_of};
 ghost use Rattle.ld_clients.specs.Serving.{serving_in, KnowTheirLogs, HasRoom, IsWhole, IsWholeIn, shown, sequencers_of};
 
 use crate::Outcome;
@@ -225,6 +227,61 @@ impl Sequencers {
         }
     }
 
+    /// The sequencer of the name does what a retry does, and tells the released number once more. One that isn't there or was
+    /// dropped does nothing.
+    pub fn calm<G: Register>(
+        &mut self,
+        alloc: Global,
+        name: &Name,
+        reg: &mut G,
+    ) -> Result<Outcome, NoMemory>
+        ensures done { IfOk result (λ outcome. (c : Contents) (s : State) → AreSequencers c s self.old → G.tells reg.old s.register → HasRoom c s.register
+            → IsActed s self.new outcome (G.tells reg.new) (moves c s (Calms name.now))) }
+        ensures logs { (c : Contents) → KnowTheirLogs c self.old → KnowTheirLogs c self.new }
+    {
+        let Some(client) = self.map.get_mut(name) else {
+            return Ok(Outcome::nothing(alloc));
+        };
+        match client.calm(alloc, name, reg) {
+            Ok(outcome) => Ok(outcome),
+            Err(refused) => {
+                self.map.clear();
+                self.places.clear();
+                Err(refused)
+            }
+        }
+    }
+
+    /// The name of the log's sequencer of the greatest epoch, where that one wasn't dropped.
+    pub fn last_of(&self, log: LogId) -> Option<&Name>
+        ensures { option_copied result ≡ live_of (last_in log None (sequencers_of self.now)) }
+    {
+        let Some((place, _)) = self.last_place(log) else {
+            return None;
+        };
+        let Some((name, client)) = self.map.get_index(place) else {
+            return None;
+        };
+        if client.is_gone() {
+            return None;
+        }
+        Some(name)
+    }
+
+    /// The place of the log's sequencer of the greatest epoch, dropped or not, in the order of activation, and that epoch.
+    fn last_place(&self, log: LogId) -> Option<(usize, u32)>
+        ensures { client_at result self.now ≡ last_client log None self.now }
+    {
+        let mut last = None;
+        'clients: for place in 0..self.map.len() {
+            let Some((_, client)) = self.map.get_index(place) else {
+                return last;
+            };
+            last = later(client, log, place, last);
+        }
+        last
+    }
+
     /// The sequencer of the name is gone: it gives back what it held, and from now on it does nothing, but its name stays taken.
     pub fn drop(&mut self, alloc: Global, name: &Name) -> Outcome
         ensures done { (c : Contents) (s : State) → AreSequencers c s self.old
@@ -326,4 +383,27 @@ impl Sequencers {
             }
         }
     }
+}
+
+/// The place and the epoch of the one of the greater epoch, where this one is of the log.
+fn later(
+    client: &Client,
+    log: LogId,
+    place: usize,
+    last: Option<(usize, u32)>,
+) -> Option<(usize, u32)>
+    requires { IsWholeIn client.now }
+    ensures { result ≡ later_at log last place client.now }
+{
+    if client.log() != log {
+        return last;
+    }
+    let epoch = client.epoch();
+    let Some((_, greatest)) = last else {
+        return Some((place, epoch));
+    };
+    if greatest < epoch {
+        return Some((place, epoch));
+    }
+    last
 }

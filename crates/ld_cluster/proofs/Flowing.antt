@@ -1,6 +1,6 @@
 -- Steps one after the other.
-use Rattle.std.proofs.Common.{◌≡◌, ℕ, zero, suc, ◌+◌, ◌⊎◌, inl, inr, Bool, true, false, List, [], ◌∷◌, ◌++◌, Option, Some, None, refl, ap, sym, ◌∙◌, subst, append_assoc, add-one, is_some, length, ◌==◌, if◌then◌else◌}
-use Rattle.std.proofs.lemmas.List.{append-nil, append_cancel_left}
+use Rattle.std.proofs.Common.{◌≡◌, ℕ, zero, suc, ◌+◌, ◌⊎◌, inl, inr, Bool, true, false, List, [], ◌∷◌, ◌++◌, Option, Some, None, refl, ap, sym, ◌∙◌, subst, append_assoc, add-one, is_some, length, map, ◌==◌, if◌then◌else◌}
+use Rattle.std.proofs.lemmas.List.{append-nil, append_cancel_left, map-append}
 use Rattle.ld_schedule.specs.declared.event.Event.{Event}
 use Rattle.ld_schedule.specs.declared.event.Event.TheVariants as events
 use Rattle.ld_transcript.specs.declared.line.Line.{Line}
@@ -9,12 +9,14 @@ use Rattle.ld_config.specs.declared.config.Config.{Config}
 use Rattle.ld_msg.specs.Network.{oldest_new}
 use Rattle.ld_machine.specs.State.{State, Stepped, Done, start, finish}
 use Rattle.ld_machine.specs.Step.{happens, delivers}
-use Rattle.ld_machine.specs.Run.{flows, flowed, step, state_after}
+use Rattle.ld_machine.specs.Calm.{Move, Takes, event_of, moved, moves}
+use Rattle.ld_machine.specs.Run.{flows, flowed, step}
 use Rattle.ld_bounds.specs.Sound.{IsSound, IsEvent}
-use Rattle.ld_bounds.proofs.Steps.{step_is}
+use Rattle.ld_bounds.proofs.Steps.{finish_is, move_is}
 use Rattle.ld_clients.specs.declared.outcome.Outcome.{Outcome}
 use Rattle.ld_cluster.specs.declared.cluster.Cluster.{Cluster}
-use Rattle.ld_cluster.specs.Standing.{config_of, past_of, state_of, Parts, IsReached}
+use Rattle.ld_cluster.specs.declared.past.Step.{Step}
+use Rattle.ld_cluster.specs.Standing.{as_move as as_step, config_of, past_of, state_by, state_of, Parts, IsReached}
 use Rattle.ld_cluster.specs.Steps.{delivers_new, delivers_oldest, delivery, more_deliveries, steps_of, is_flow, IsStep, IsStepInPart, HasFlowed, IsFlowing}
 use Rattle.ld_cluster.specs.Outcomes.{IsSame, AddsFirst, IsDone, IsFinished, ended}
 use Rattle.ld_cluster.proofs.Finishing.{none_added, adds_none, adds_all, adds_on, adds_or_none, same_on}
@@ -32,6 +34,7 @@ one_step c s (events.Drop name) h = refl
 one_step c s (events.Deliver i) h = refl
 one_step c s (events.Lose i) h = refl
 one_step c s (events.Flow k) h = absurd cc
+one_step c s events.Calm h = absurd cc
 one_step c s (events.Open name l from until) h = refl
 one_step c s (events.OpenOne name l from until) h = refl
 one_step c s (events.OpenMessages name l from until) h = refl
@@ -54,7 +57,7 @@ flow_step : (c : Config) (s : State) (k : ℕ) → step c s (events.Flow k) ≡ 
 unfolding step
 flow_step c s k = refl
 
-steps_of_one : (c : Config) (s : State) (e : Event) → is_flow e ≡ false → steps_of c s e ≡ e ∷ []
+steps_of_one : (c : Config) (s : State) (e : Event) → is_flow e ≡ false → steps_of c s e ≡ Takes e ∷ []
 unfolding steps_of
 steps_of_one c s (events.Format n) h = refl
 steps_of_one c s (events.Activate name l) h = refl
@@ -66,6 +69,7 @@ steps_of_one c s (events.Drop name) h = refl
 steps_of_one c s (events.Deliver i) h = refl
 steps_of_one c s (events.Lose i) h = refl
 steps_of_one c s (events.Flow k) h = absurd cc
+steps_of_one c s events.Calm h = absurd cc
 steps_of_one c s (events.Open name l from until) h = refl
 steps_of_one c s (events.OpenOne name l from until) h = refl
 steps_of_one c s (events.OpenMessages name l from until) h = refl
@@ -94,57 +98,113 @@ none_from (Some i) h = absurd cc
 
 -- ---- what steps lead to ----
 
-state_after-push : (c : Config) (s : State) (es : List Event) (e : Event) → state_after c s (es ++ e ∷ []) ≡ (step c (state_after c s es) e).state
-unfolding state_after
-state_after-push c s [] e = refl
-state_after-push c s (x ∷ es) e = state_after-push c (step c s x).state es e
+state_by-push : (c : Config) (s : State) (ms : List Move) (m : Move) → state_by c s (ms ++ m ∷ []) ≡ (moved c (state_by c s ms) m).state
+state_by-push c s [] m = refl
+state_by-push c s (x ∷ ms) m = state_by-push c (moved c s x).state ms m
 
 -- one step more
-state_more : (old new : Cluster) (e : Event) → config_of new ≡ config_of old → past_of new ≡ past_of old ++ e ∷ [] → state_of new ≡ (step (config_of old) (state_of old) e).state
-state_more old new e g p =
-    ap (λ c. state_after c (start c) (past_of new)) g
-    ∙ (ap (λ es. state_after (config_of old) (start (config_of old)) es) p ∙ state_after-push (config_of old) (start (config_of old)) (past_of old) e)
+state_more : (old new : Cluster) (m : Move) → config_of new ≡ config_of old → past_of new ≡ past_of old ++ m ∷ [] → state_of new ≡ (moved (config_of old) (state_of old) m).state
+state_more old new m g p =
+    ap (λ c. state_by c (start c) (past_of new)) g
+    ∙ (ap (λ ms. state_by (config_of old) (start (config_of old)) ms) p ∙ state_by-push (config_of old) (start (config_of old)) (past_of old) m)
 
--- an event that is one step was taken
-pub taken : (k0 k1 k2 k3 : Cluster) (e : Event) (o : Outcome) (l0 l1 : List Line) → IsReached k0 → IsEvent e → is_flow e ≡ false
-    → IsDone k0 k1 o (happens (config_of k0) (state_of k0) e) → ((s : State) → Parts k1 s → IsFinished k1 k2 l0 l1 (ended s o))
-    → config_of k3 ≡ config_of k2 → past_of k3 ≡ past_of k2 ++ e ∷ [] → ((s : State) → Parts k2 s → Parts k3 s)
-    → IsStep k0 k3 l0 l1 (step (config_of k0) (state_of k0) e) (steps_of (config_of k0) (state_of k0) e)
-taken k0 k1 k2 k3 e o l0 l1 r v f d ends c3 p3 parts3 =
+-- a step was taken
+pub noted : (k0 k1 k2 k3 : Cluster) (m : Move) (o : Outcome) (l0 l1 : List Line) → IsReached k0 → IsEvent (event_of m)
+    → IsDone k0 k1 o (moves (config_of k0) (state_of k0) m) → ((s : State) → Parts k1 s → IsFinished k1 k2 l0 l1 (ended s o))
+    → config_of k3 ≡ config_of k2 → past_of k3 ≡ past_of k2 ++ m ∷ [] → ((s : State) → Parts k2 s → Parts k3 s)
+    → IsStep k0 k3 l0 l1 (moved (config_of k0) (state_of k0) m) (m ∷ [])
+noted k0 k1 k2 k3 m o l0 l1 r v d ends c3 p3 parts3 =
     let c : Config = config_of k0 in
     let s : State = state_of k0 in
-    let d0 : Done = happens c s e in
+    let d0 : Done = moves c s m in
     let fin : IsFinished k1 k2 l0 l1 (finish d0) = subst (λ (x : Stepped). IsFinished k1 k2 l0 l1 x) (λ i. finish (record { state = d0.state; lines = d.lines i; sends = d.sends i })) (ends d0.state d.parts) in
     let g : config_of k3 ≡ c = c3 ∙ (fin.same.config ∙ d.same.config) in
-    let p : past_of k3 ≡ past_of k0 ++ e ∷ [] = p3 ∙ ap (λ es. es ++ e ∷ []) (fin.same.past ∙ d.same.past) in
-    let st : state_of k3 ≡ (step c s e).state = state_more k0 k3 e g p in
-    let one : finish d0 ≡ step c s e = sym (one_step c s e f) in
+    let p : past_of k3 ≡ past_of k0 ++ m ∷ [] = p3 ∙ ap (λ ms. ms ++ m ∷ []) (fin.same.past ∙ d.same.past) in
+    let st : state_of k3 ≡ (moved c s m).state = state_more k0 k3 m g p in
     record {
       config = g;
-      past = p ∙ ap (λ es. past_of k0 ++ es) (sym (steps_of_one c s e f));
+      past = p;
       state = st;
-      lines = fin.lines ∙ ap (λ (x : Stepped). l0 ++ x.lines) one;
+      lines = fin.lines;
       reached = record {
-        parts = subst (λ (t : State). Parts k3 t) (ap (λ (x : Stepped). x.state) one ∙ sym st) (parts3 (finish d0).state fin.parts);
+        parts = subst (λ (t : State). Parts k3 t) (sym st) (parts3 (finish d0).state fin.parts);
         bounds = rw g r.bounds;
-        sound = subst (λ (t : State). IsSound (config_of k3) t) (sym st) (subst (λ (x : Config). IsSound x (step c s e).state) (sym g) (step_is c r.bounds s e v r.sound));
+        sound = subst (λ (t : State). IsSound (config_of k3) t) (sym st) (subst (λ (x : Config). IsSound x (moved c s m).state) (sym g) (finish_is c (moves c s m) (move_is c r.bounds s m v r.sound)));
       };
     }
 
+-- an event that is one step, as that step
+pub as_event : (k0 k3 : Cluster) (e : Event) (l0 l1 : List Line) → is_flow e ≡ false → IsStep k0 k3 l0 l1 (moved (config_of k0) (state_of k0) (Takes e)) (Takes e ∷ [])
+    → IsStep k0 k3 l0 l1 (step (config_of k0) (state_of k0) e) (steps_of (config_of k0) (state_of k0) e)
+as_event k0 k3 e l0 l1 f t =
+    let one : moved (config_of k0) (state_of k0) (Takes e) ≡ step (config_of k0) (state_of k0) e = sym (one_step (config_of k0) (state_of k0) e f) in
+    record {
+      config = t.config;
+      past = t.past ∙ ap (λ ms. past_of k0 ++ ms) (sym (steps_of_one (config_of k0) (state_of k0) e f));
+      state = t.state ∙ ap (λ (x : Stepped). x.state) one;
+      lines = t.lines ∙ ap (λ (x : Stepped). l0 ++ x.lines) one;
+      reached = t.reached;
+    }
+
+pub as_moved : (k0 k3 : Cluster) (e : Event) (l0 l1 : List Line) → is_flow e ≡ false → IsStep k0 k3 l0 l1 (step (config_of k0) (state_of k0) e) (steps_of (config_of k0) (state_of k0) e)
+    → IsStep k0 k3 l0 l1 (moved (config_of k0) (state_of k0) (Takes e)) (Takes e ∷ [])
+as_moved k0 k3 e l0 l1 f t =
+    let one : step (config_of k0) (state_of k0) e ≡ moved (config_of k0) (state_of k0) (Takes e) = one_step (config_of k0) (state_of k0) e f in
+    record {
+      config = t.config;
+      past = t.past ∙ ap (λ ms. past_of k0 ++ ms) (steps_of_one (config_of k0) (state_of k0) e f);
+      state = t.state ∙ ap (λ (x : Stepped). x.state) one;
+      lines = t.lines ∙ ap (λ (x : Stepped). l0 ++ x.lines) one;
+      reached = t.reached;
+    }
+
+pub part_as_event : (k0 k3 : Cluster) (e : Event) (l0 l1 : List Line) → is_flow e ≡ false → IsStepInPart k0 k3 l0 l1 (moved (config_of k0) (state_of k0) (Takes e)) (Takes e ∷ [])
+    → IsStepInPart k0 k3 l0 l1 (step (config_of k0) (state_of k0) e) (steps_of (config_of k0) (state_of k0) e)
+part_as_event k0 k3 e l0 l1 f t = record {
+  config = t.config;
+  past = subst (AddsFirst (past_of k0) (past_of k3)) (sym (steps_of_one (config_of k0) (state_of k0) e f)) t.past;
+  lines = subst (λ (x : Stepped). AddsFirst l0 l1 x.lines) (sym (one_step (config_of k0) (state_of k0) e f)) t.lines;
+}
+
+pub part_as_moved : (k0 k3 : Cluster) (e : Event) (l0 l1 : List Line) → is_flow e ≡ false → IsStepInPart k0 k3 l0 l1 (step (config_of k0) (state_of k0) e) (steps_of (config_of k0) (state_of k0) e)
+    → IsStepInPart k0 k3 l0 l1 (moved (config_of k0) (state_of k0) (Takes e)) (Takes e ∷ [])
+part_as_moved k0 k3 e l0 l1 f t = record {
+  config = t.config;
+  past = subst (AddsFirst (past_of k0) (past_of k3)) (steps_of_one (config_of k0) (state_of k0) e f) t.past;
+  lines = subst (λ (x : Stepped). AddsFirst l0 l1 x.lines) (one_step (config_of k0) (state_of k0) e f) t.lines;
+}
+
+-- an event that is one step was taken
+pub taken : (k0 k1 k3 : Cluster) (e copy : Event) (o : Outcome) (l0 l1 : List Line) → copy ≡ e → is_flow e ≡ false → IsEvent e → IsDone k0 k1 o (happens (config_of k0) (state_of k0) e)
+    → (IsEvent copy → IsDone k0 k1 o (happens (config_of k0) (state_of k0) copy) → IsStep k0 k3 l0 l1 (moved (config_of k0) (state_of k0) (Takes copy)) (Takes copy ∷ []))
+    → IsStep k0 k3 l0 l1 (step (config_of k0) (state_of k0) e) (steps_of (config_of k0) (state_of k0) e)
+taken k0 k1 k3 e copy o l0 l1 q f v d h = as_event k0 k3 e l0 l1 f (subst (λ (x : Event). IsStep k0 k3 l0 l1 (moved (config_of k0) (state_of k0) (Takes x)) (Takes x ∷ [])) q
+    (h (subst IsEvent (sym q) v) (subst (λ (x : Event). IsDone k0 k1 o (happens (config_of k0) (state_of k0) x)) (sym q) d)))
+
+pub taken_in_part : (k0 k1 k3 : Cluster) (e copy : Event) (o : Outcome) (l0 l1 : List Line) → copy ≡ e → is_flow e ≡ false → IsDone k0 k1 o (happens (config_of k0) (state_of k0) e)
+    → (IsDone k0 k1 o (happens (config_of k0) (state_of k0) copy) → IsStepInPart k0 k3 l0 l1 (moved (config_of k0) (state_of k0) (Takes copy)) (Takes copy ∷ []))
+    → IsStepInPart k0 k3 l0 l1 (step (config_of k0) (state_of k0) e) (steps_of (config_of k0) (state_of k0) e)
+taken_in_part k0 k1 k3 e copy o l0 l1 q f d h = part_as_event k0 k3 e l0 l1 f (subst (λ (x : Event). IsStepInPart k0 k3 l0 l1 (moved (config_of k0) (state_of k0) (Takes x)) (Takes x ∷ [])) q
+    (h (subst (λ (x : Event). IsDone k0 k1 o (happens (config_of k0) (state_of k0) x)) (sym q) d)))
+
 -- nothing of a step is told, where there was no memory before its end
-pub untold : (k0 k1 : Cluster) (l : List Line) (t : Stepped) (es : List Event) → IsSame k0 k1 → IsStepInPart k0 k1 l l t es
+pub untold : (k0 k1 : Cluster) (l : List Line) (t : Stepped) (es : List Move) → IsSame k0 k1 → IsStepInPart k0 k1 l l t es
 untold k0 k1 l t es same = record { config = same.config; past = record { some = []; more = es; whole = refl; added = same.past ∙ sym (append-nil (past_of k0)) }; lines = adds_none l t.lines }
 
+-- a step more is kept
+pub one_noted : (xs ys : List Step) (x : Step) → ys ≡ xs ++ x ∷ [] → map as_step ys ≡ map as_step xs ++ as_step x ∷ []
+one_noted xs ys x e = ap (map as_step) e ∙ map-append as_step xs (x ∷ [])
+
 -- some of its lines are, but it isn't in the past
-pub told_in_part : (k0 k1 k2 : Cluster) (e : Event) (o : Outcome) (l0 l1 : List Line) → is_flow e ≡ false → IsDone k0 k1 o (happens (config_of k0) (state_of k0) e) → IsSame k1 k2
-    → ((s : State) → Parts k1 s → AddsFirst l0 l1 (ended s o).lines) → IsStepInPart k0 k2 l0 l1 (step (config_of k0) (state_of k0) e) (steps_of (config_of k0) (state_of k0) e)
-told_in_part k0 k1 k2 e o l0 l1 f d same part =
+pub noted_in_part : (k0 k1 k2 : Cluster) (m : Move) (o : Outcome) (l0 l1 : List Line) → IsDone k0 k1 o (moves (config_of k0) (state_of k0) m) → IsSame k1 k2
+    → ((s : State) → Parts k1 s → AddsFirst l0 l1 (ended s o).lines) → IsStepInPart k0 k2 l0 l1 (moved (config_of k0) (state_of k0) m) (m ∷ [])
+noted_in_part k0 k1 k2 m o l0 l1 d same part =
     let c : Config = config_of k0 in
     let s : State = state_of k0 in
-    let d0 : Done = happens c s e in
+    let d0 : Done = moves c s m in
     let some : AddsFirst l0 l1 (finish d0).lines = subst (λ (x : Stepped). AddsFirst l0 l1 x.lines) (λ i. finish (record { state = d0.state; lines = d.lines i; sends = d.sends i })) (part d0.state d.parts) in
-    let none = untold k0 k2 l0 (step c s e) (steps_of c s e) (same_on k0 k1 k2 d.same same) in
-    record { config = none.config; past = none.past; lines = subst (λ (x : Stepped). AddsFirst l0 l1 x.lines) (sym (one_step c s e f)) some }
+    let none = untold k0 k2 l0 (moved c s m) (m ∷ []) (same_on k0 k1 k2 d.same same) in
+    record { config = none.config; past = none.past; lines = some }
 
 -- ---- a flow ----
 
@@ -158,7 +218,7 @@ flows_some k c s i h = ap (λ o. elim o as (λ _. Stepped) [ None ↦ record { s
 more_none : (k : ℕ) (c : Config) (s : State) → oldest_new s.network ≡ None → more_deliveries c s k (oldest_new s.network) ≡ []
 more_none k c s h = ap (more_deliveries c s k) h
 
-more_some : (k : ℕ) (c : Config) (s : State) (i : ℕ) → oldest_new s.network ≡ Some i → more_deliveries c s (suc k) (oldest_new s.network) ≡ events.Deliver i ∷ more_deliveries c (finish (delivers c s i)).state k (oldest_new (finish (delivers c s i)).state.network)
+more_some : (k : ℕ) (c : Config) (s : State) (i : ℕ) → oldest_new s.network ≡ Some i → more_deliveries c s (suc k) (oldest_new s.network) ≡ Takes (events.Deliver i) ∷ more_deliveries c (finish (delivers c s i)).state k (oldest_new (finish (delivers c s i)).state.network)
 more_some k c s i h = ap (more_deliveries c s (suc k)) h
 
 more_zero : (c : Config) (s : State) (o : Option ℕ) → more_deliveries c s 0 o ≡ []
@@ -187,15 +247,15 @@ flowing_more k now new ls ln lm most left rest i h e o t =
     let st : state_of new ≡ d.state = t.state ∙ ap (λ (x : Stepped). x.state) there in
     let fl : flows left c (state_of now) ≡ record { state = (flows rest c (state_of new)).state; lines = d.lines ++ (flows rest c (state_of new)).lines }
     = ap (λ n. flows n c (state_of now)) e ∙ (flows_some rest c (state_of now) i o ∙ ap (λ (t : State). record { state = (flows rest c t).state; lines = d.lines ++ (flows rest c t).lines }) (sym st)) in
-    let mo : more_deliveries c (state_of now) left (oldest_new (state_of now).network) ≡ events.Deliver i ∷ more_deliveries c (state_of new) rest (oldest_new (state_of new).network)
-    = ap (λ n. more_deliveries c (state_of now) n (oldest_new (state_of now).network)) e ∙ (more_some rest c (state_of now) i o ∙ ap (λ (t : State). events.Deliver i ∷ more_deliveries c t rest (oldest_new t.network)) (sym st)) in
+    let mo : more_deliveries c (state_of now) left (oldest_new (state_of now).network) ≡ Takes (events.Deliver i) ∷ more_deliveries c (state_of new) rest (oldest_new (state_of new).network)
+    = ap (λ n. more_deliveries c (state_of now) n (oldest_new (state_of now).network)) e ∙ (more_some rest c (state_of now) i o ∙ ap (λ (t : State). Takes (events.Deliver i) ∷ more_deliveries c t rest (oldest_new t.network)) (sym st)) in
     record {
       config = t.config ∙ h.config;
       state = sym (ap (λ (x : Stepped). x.state) fl) ∙ h.state;
       lines = ap (λ x. x ++ (flows rest c (state_of new)).lines) (t.lines ∙ ap (λ (x : Stepped). ln ++ x.lines) there) ∙ (append_assoc ln d.lines (flows rest c (state_of new)).lines ∙ (ap (λ (x : Stepped). ln ++ x.lines) (sym fl) ∙ h.lines));
-      past = ap (λ x. x ++ more_deliveries c (state_of new) rest (oldest_new (state_of new).network)) (t.past ∙ ap (λ x. past_of now ++ delivery x) o) ∙ (append_assoc (past_of now) (events.Deliver i ∷ []) _ ∙ (ap (λ x. past_of now ++ x) (sym mo) ∙ h.past));
-      made = h.made ++ events.Deliver i ∷ [];
-      made_are = t.past ∙ (ap (λ x. past_of now ++ delivery x) o ∙ (ap (λ x. x ++ events.Deliver i ∷ []) h.made_are ∙ append_assoc (past_of k) h.made (events.Deliver i ∷ [])));
+      past = ap (λ x. x ++ more_deliveries c (state_of new) rest (oldest_new (state_of new).network)) (t.past ∙ ap (λ x. past_of now ++ delivery x) o) ∙ (append_assoc (past_of now) (Takes (events.Deliver i) ∷ []) _ ∙ (ap (λ x. past_of now ++ x) (sym mo) ∙ h.past));
+      made = h.made ++ Takes (events.Deliver i) ∷ [];
+      made_are = t.past ∙ (ap (λ x. past_of now ++ delivery x) o ∙ (ap (λ x. x ++ Takes (events.Deliver i) ∷ []) h.made_are ∙ append_assoc (past_of k) h.made (Takes (events.Deliver i) ∷ [])));
       told = h.told ++ d.lines;
       told_are = t.lines ∙ (ap (λ (x : Stepped). ln ++ x.lines) there ∙ (ap (λ x. x ++ d.lines) h.told_are ∙ append_assoc ls h.told d.lines));
       reached = t.reached;
@@ -233,7 +293,7 @@ flowing_over k now new ls ln lm most left more h g m f =
     record { config = f.config ∙ en.config; state = st ∙ en.state; lines = li ∙ en.lines; past = pa ∙ en.past; reached = f.reached }
 
 -- there was no memory for one of the deliveries
-deliveries_split : (c : Config) (s : State) (k : ℕ) (o : Option ℕ) → (rest : List Event) × (delivery o ++ rest ≡ more_deliveries c s (suc k) o)
+deliveries_split : (c : Config) (s : State) (k : ℕ) (o : Option ℕ) → (rest : List Move) × (delivery o ++ rest ≡ more_deliveries c s (suc k) o)
 deliveries_split c s k None = ([], refl)
 deliveries_split c s k (Some i) = (more_deliveries c (finish (delivers c s i)).state k (oldest_new (finish (delivers c s i)).state.network), refl)
 

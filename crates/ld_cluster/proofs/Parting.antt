@@ -24,7 +24,6 @@ use Rattle.ld_ids.specs.Set.{members}
 use Rattle.ld_msg.specs.Network.{no_messages}
 use Rattle.ld_msg.specs.Register.{empty_register}
 use Rattle.ld_machine.specs.State.{State, Done, unchanged, start, new_nodes}
-use Rattle.ld_machine.specs.Run.{state_after}
 use Rattle.ld_bounds.proofs.Steps.{start_is}
 use Rattle.ld_register.specs.Arming.{Foresees}
 use Rattle.ld_host.specs.Standing.{AreHosts}
@@ -34,7 +33,7 @@ use Rattle.ld_clients.specs.Serving.{sequencers_of, KnowTheirLogs}
 use Rattle.ld_clients.specs.Followers as followers
 use Rattle.ld_clients.specs.Acting.{AreSequencers, IsActed}
 use Rattle.ld_clients.specs.Reads.{AreReaders, IsRead}
-use Rattle.ld_cluster.specs.Standing.{config_of, past_of, state_of, Parts, IsReached}
+use Rattle.ld_cluster.specs.Standing.{config_of, past_of, state_by, state_of, Parts, IsReached}
 use Rattle.ld_cluster.specs.Outcomes.{IsSame, IsDone}
 use Rattle.ld_cluster.specs.declared.cluster.Cluster.{Cluster}
 
@@ -162,10 +161,6 @@ closed_are c s h l = λ e y f. closed_by c l (find l s.register.logs) e y (λ v 
 
 -- ---- a new cluster ----
 
-nothing_yet : (c : Config) → state_after c (start c) [] ≡ start c
-unfolding state_after
-nothing_yet c = refl
-
 no_clients : (c : Config) → KnowTheirLogs c []
 unfolding find_named
 no_clients c = λ name k h. absurd cc
@@ -178,7 +173,7 @@ pub fresh : (k : Cluster) → IsInBounds (config_of k) → past_of k ≡ [] → 
     → k.network ≡ no_messages → k.sequencers ≡ [] → k.readers ≡ [] → k.specs ≡ [] → IsReached k
 fresh k b past hosts register network sequencers readers specs =
     let c : Config = config_of k in
-    let at : state_of k ≡ start c = ap (λ es. state_after c (start c) es) past ∙ nothing_yet c in
+    let at : state_of k ≡ start c = ap (λ ms. state_by c (start c) ms) past in
     let parts : Parts k (start c) = record {
       nodes = hosts;
       register = register;

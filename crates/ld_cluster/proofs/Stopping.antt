@@ -1,5 +1,5 @@
 -- Nodes that stop, load and lose their disks, and what is armed.
-use Rattle.std.proofs.Common.{◌≡◌, ℕ, Bool, true, false, ◌&&◌, ◌||◌, [], ◌∷◌, Some, None, refl, ap, sym, subst}
+use Rattle.std.proofs.Common.{◌≡◌, ℕ, Bool, true, false, ◌&&◌, ◌||◌, [], ◌∷◌, Some, None, refl, ap, sym, subst, map}
 use Rattle.ld_table.specs.Table.{put}
 use Rattle.ld_config.specs.declared.config.Config.{Config}
 use Rattle.ld_schedule.specs.declared.event.Event.TheVariants as events
@@ -14,7 +14,7 @@ use Rattle.ld_host.specs.declared.hosts.Hosts.{Hosts}
 use Rattle.ld_host.specs.Standing.{AreHosts, node_in}
 use Rattle.ld_clients.specs.declared.outcome.Outcome.{Outcome}
 use Rattle.ld_cluster.specs.declared.cluster.Cluster.{Cluster}
-use Rattle.ld_cluster.specs.Standing.{config_of, Parts}
+use Rattle.ld_cluster.specs.Standing.{as_move, config_of, Parts}
 use Rattle.ld_cluster.specs.Outcomes.{IsDone}
 use Rattle.ld_cluster.proofs.Chosen.{where_yes, where_not, where_here, where_nowhere}
 use Rattle.ld_cluster.proofs.Parting.{nothing_done, with_hosts, hosted_done}
@@ -105,9 +105,13 @@ pub armed_done : (k k' : Cluster) (s : State) (call : ℕ) (done : Bool) (o : Ou
     → Foresees k'.register (armed s.register call done) → o.lines.items ≡ [] → o.sends ≡ [] → IsDone k k' o (happens (config_of k) s (events.RegFail call done))
 unfolding happens
 armed_done k k' s call done o p e f h n q r x reg ls ms =
-    hosted_done k k' s s.nodes (armed s.register call done) o _ p e (ap (λ v. v.items) f) n q r x (subst (λ hs. AreHosts k.config hs s.nodes) (sym h) p.nodes) reg refl ls ms
+    hosted_done k k' s s.nodes (armed s.register call done) o _ p e (ap (λ v. map as_move v.items) f) n q r x (subst (λ hs. AreHosts k.config hs s.nodes) (sym h) p.nodes) reg refl ls ms
 
 -- a flow is some deliveries, and nothing beside
 pub nothing_flows : (k : Cluster) (s : State) (most : ℕ) (o : Outcome) → Parts k s → o.lines.items ≡ [] → o.sends ≡ [] → IsDone k k o (happens (config_of k) s (events.Flow most))
 unfolding happens
 nothing_flows k s most o p ls ms = nothing_done k s o _ p refl ls ms
+
+pub nothing_calms : (k : Cluster) (s : State) (o : Outcome) → Parts k s → o.lines.items ≡ [] → o.sends ≡ [] → IsDone k k o (happens (config_of k) s events.Calm)
+unfolding happens
+nothing_calms k s o p ls ms = nothing_done k s o _ p refl ls ms

@@ -1,28 +1,39 @@
 -- What a cluster stands for: a state of the machine.
-use Rattle.std.specs.Prelude.{◌≡◌, List}
-use Rattle.ld_schedule.specs.declared.event.Event.{Event}
+use Rattle.std.specs.Prelude.{◌≡◌, List, [], ◌∷◌, map}
 use Rattle.ld_config.specs.declared.config.Config.{Config}
 use Rattle.ld_config.specs.Bounds.{IsInBounds}
 use Rattle.ld_machine.specs.State.{State, start}
-use Rattle.ld_machine.specs.Run.{state_after}
+use Rattle.ld_machine.specs.Calm.{Move, Takes, Calms, moved}
 use Rattle.ld_bounds.specs.Sound.{IsSound}
 use Rattle.ld_register.specs.Arming.{Foresees}
 use Rattle.ld_host.specs.Standing.{AreHosts}
 use Rattle.ld_clients.specs.Acting.{AreSequencers}
 use Rattle.ld_clients.specs.Reads.{AreReaders}
 use Rattle.ld_cluster.specs.declared.cluster.Cluster.{Cluster}
+use Rattle.ld_cluster.specs.declared.past.Step.{Step}
+use Rattle.ld_cluster.specs.declared.past.Step.TheVariants as steps
 
 -- its configuration
 abbrev pub config_of : Cluster → Config
 config_of k = k.config
 
--- the steps that it took, each with its event; of a flow each delivery is one
-abbrev pub past_of : Cluster → List Event
-past_of k = k.past.items
+-- a step that was taken
+abbrev pub as_move : Step → Move
+as_move (steps.Takes e) = Takes e
+as_move (steps.Calms name) = Calms name
+
+-- the steps that it took; of a flow each delivery is one, and of a calm each of its steps
+abbrev pub past_of : Cluster → List Move
+past_of k = map as_move k.past.items
+
+-- the state that some steps lead to
+abbrev pub state_by : Config → State → List Move → State
+state_by c s [] = s
+state_by c s (m ∷ ms) = state_by c (moved c s m).state ms
 
 -- the state that its steps lead to
 abbrev pub state_of : Cluster → State
-state_of k = state_after (config_of k) (start (config_of k)) (past_of k)
+state_of k = state_by (config_of k) (start (config_of k)) (past_of k)
 
 -- each part is what the state says of it: each node with the bytes of its own disk, and the register with those of its own
 pub record Parts (k : Cluster) (s : State) : Type 0 where

@@ -8,6 +8,7 @@ ghost use Rattle.ld_machine.specs.Run.{step};
 ghost use Rattle.ld_cluster.specs.Standing.{config_of, past_of, state_of, IsReached};
 ghost use Rattle.ld_cluster.specs.Steps.{IsStep, IsStepInPart, Counts, delivers_oldest, delivery, steps_of};
 
+use crate::past::Step;
 use crate::specs::Specs;
 use ld_clients::{Readers, Sequencers};
 use ld_config::Config;
@@ -27,7 +28,7 @@ use std::alloc::Global;
 #[derive(Drop)]
 pub struct Cluster {
     pub(crate) config: Config,
-    pub(crate) past: Vec<Event>,
+    pub(crate) past: Vec<Step>,
     pub(crate) hosts: Hosts,
     pub(crate) register: FaultyRegister<MemDisk>,
     pub(crate) network: Net,
@@ -59,7 +60,8 @@ impl Cluster {
     }
 
     /// Takes the event as one step of the machine, or, for a `flow`, as one step for each delivery, and adds the lines.
-    /// After an `Err` the cluster may have done a part, of which it has added the first lines, and is of no use.
+    /// A `calm` isn't run yet: nothing is done, and the answer is the same as for want of memory. After an `Err` the
+    /// cluster may have done a part, of which it has added the first lines, and is of no use.
     pub fn step(&mut self, alloc: Global, event: &Event, lines: &mut Lines) -> Result<(), NoMemory>
         requires reached { IsReached self.old }
         requires counts { Counts event.now }
@@ -69,6 +71,9 @@ impl Cluster {
         if let Event::Flow { most } = event {
             self.flow_most(alloc, *most, lines)?;
             return Ok(());
+        }
+        if let Event::Calm = event {
+            return Err(NoMemory);
         }
         self.take(alloc, event, lines)?;
         Ok(())

@@ -36,6 +36,7 @@ pub fn copy_of(alloc: Global, event: &Event) -> Result<Event, NoMemory>
         Event::Deliver { message } => Ok(Event::Deliver { message: *message }),
         Event::Lose { message } => Ok(Event::Lose { message: *message }),
         Event::Flow { most } => Ok(Event::Flow { most: *most }),
+        Event::Calm => Ok(Event::Calm),
         Event::Open {
             name,
             log,

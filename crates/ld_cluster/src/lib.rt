@@ -14,6 +14,7 @@ mod law;
 mod lines;
 mod lookup;
 mod nodes;
+mod past;
 mod sets;
 mod specs;
 mod swaps;

@@ -1,14 +1,18 @@
 // An event that is one step.
-ghost use Rattle.std.specs.Prelude.{◌≡◌, false, IfOk, OnErr, OnOk};
+ghost use Rattle.std.specs.Prelude.{◌≡◌, ◌∷◌, [], false, IfOk, OnErr, OnOk};
 ghost use Rattle.ld_schedule.specs.declared.event.Event.TheVariants.{Lose};
 ghost use Rattle.ld_machine.specs.Step.{happens};
 ghost use Rattle.ld_machine.specs.Run.{step};
-ghost use Rattle.ld_cluster.specs.Standing.{config_of, state_of, IsReached};
+ghost use Rattle.ld_machine.specs.Calm.{event_of, moved, moves};
+ghost use Rattle.ld_bounds.specs.Sound.{IsEvent};
+ghost use Rattle.ld_cluster.specs.declared.cluster.Cluster.{Cluster as Seen};
+ghost use Rattle.ld_cluster.specs.Standing.{as_move, config_of, state_of, IsReached};
 ghost use Rattle.ld_cluster.specs.Steps.{IsStep, IsStepInPart, Counts, steps_of, is_flow};
 ghost use Rattle.ld_cluster.specs.Outcomes.{IsSame, IsDone};
 
 use crate::cluster::Cluster;
 use crate::copy::copy_of;
+use crate::past::Step;
 use ld_bounds::laws::events_are_events;
 use ld_clients::Outcome;
 use ld_ids::NoMemory;
@@ -34,12 +38,29 @@ impl Cluster {
         events_are_events(event);
         let copy = copy_of(alloc, event)?;
         let outcome = self.happen(alloc, event)?;
-        self.finish(alloc, outcome, lines)?;
-        self.past.push(copy)?;
+        self.note(alloc, Step::Takes(copy), outcome, lines)?;
         Ok(())
     }
 
-    /// What an event does. A flow is several.
+    /// A step that was done is finished: its messages are sent, its lines added, and it is one of the steps that were taken.
+    pub(crate) fn note(
+        &mut self,
+        alloc: Global,
+        step: Step,
+        outcome: Outcome,
+        lines: &mut Lines,
+    ) -> Result<(), NoMemory>
+        ensures whole { (k : Seen) → IsReached k → IsEvent (event_of (as_move step)) → IsDone k self.old outcome (moves (config_of k) (state_of k) (as_move step))
+            → OnOk result (IsStep k self.new lines.old lines.new (moved (config_of k) (state_of k) (as_move step)) (as_move step ∷ [])) }
+        ensures part { (k : Seen) → IsDone k self.old outcome (moves (config_of k) (state_of k) (as_move step))
+            → OnErr result (IsStepInPart k self.new lines.old lines.new (moved (config_of k) (state_of k) (as_move step)) (as_move step ∷ [])) }
+    {
+        self.finish(alloc, outcome, lines)?;
+        self.past.push(step)?;
+        Ok(())
+    }
+
+    /// What an event does. A flow and a calm are several.
     fn happen(&mut self, alloc: Global, event: &Event) -> Result<Outcome, NoMemory>
         requires reached { IsReached self.old }
         requires counts { Counts event.now }
@@ -57,6 +78,7 @@ impl Cluster {
             Event::Deliver { message } => self.deliver(alloc, *message),
             Event::Lose { message } => Ok(self.lose(alloc, *message)),
             Event::Flow { .. } => Ok(Outcome::nothing(alloc)),
+            Event::Calm => Ok(Outcome::nothing(alloc)),
             Event::Open {
                 name,
                 log,

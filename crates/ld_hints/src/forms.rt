@@ -12,7 +12,7 @@ pub struct Form {
 }
 
 /// The forms of all events, by their words.
-pub const FORMS: [Form; 23] = [
+pub const FORMS: [Form; 24] = [
     Form {
         word: "activate",
         fields: "S L",
@@ -27,6 +27,11 @@ pub const FORMS: [Form; 23] = [
         word: "batch",
         fields: "S HEX,HEX,..",
         bounds: "S is a sequencer's name, each of 1 to 1024 HEX an even number of digits 0-9 a-f, or - for an empty message",
+    },
+    Form {
+        word: "calm",
+        fields: "",
+        bounds: "the word alone",
     },
     Form {
         word: "deliver",

@@ -36,6 +36,20 @@ impl<S: Source + Drop> Recent<S> {
         }
         None
     }
+
+    /// Whether the line of this number is kept, and was read with the byte that ends it.
+    pub fn is_ended(&self, number: u64) -> bool {
+        let mut at = self.first;
+        for byte in self.held.iter() {
+            if *byte == b'\n' {
+                if at == number {
+                    return true;
+                }
+                at = at.saturating_add(1);
+            }
+        }
+        false
+    }
 }
 
 /// Lets the whole lines go, and counts them.
@@ -59,11 +73,19 @@ fn keep(held: &mut Vec<u8>, bytes: &[u8]) -> Result<(), AllocError> {
 }
 
 impl<S: Source + Drop> Source for Recent<S> {
-    ghost left = { λ s. S.left s.inner };
+    ghost gave = { λ s. S.gave s.inner };
+
+    ghost may_be = { λ s all. S.may_be s.inner all };
+
+    ghost known = { λ s. S.known s.inner };
 
     ghost faults = { λ s. S.faults s.inner };
 
-    ghost given = { λ s. S.given s.inner };
+    ghost begins = { λ s all may. S.begins s.inner all may };
+
+    ghost some = { λ s. S.some s.inner };
+
+    ghost knows = { λ s. S.knows s.inner };
 
     fn read(&mut self, buf: &mut [u8]) -> Result<usize, Failed> {
         let count = self.inner.read(buf)?;

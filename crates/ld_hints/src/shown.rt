@@ -70,7 +70,12 @@ fn words(text: &mut String, line: &[u8], place: usize) -> Result<(), AllocError>
 fn forms(text: &mut String, line: &[u8], place: usize) -> Result<(), AllocError> {
     for form in &FORMS {
         if is_meant(form, line, place) {
-            writeln!(text, "    {} {}: {}", form.word, form.fields, form.bounds)?;
+            text.push_str("    ")?;
+            text.push_str(form.word)?;
+            if !form.fields.is_empty() {
+                text.push(' ')?;
+            }
+            writeln!(text, "{}: {}", form.fields, form.bounds)?;
         }
     }
     Ok(())

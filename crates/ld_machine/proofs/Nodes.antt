@@ -27,6 +27,7 @@ use Rattle.ld_msg.specs.declared.style.Style.TheVariants as styles
 use Rattle.ld_msg.specs.Reader.{Reader, is_finished}
 use Rattle.ld_machine.specs.State.{State, Done, Stepped, node_at, with_node, unchanged, start, new_nodes, sequencer_of, reader_of, finish, with_register}
 use Rattle.ld_machine.specs.Step
+use Rattle.ld_machine.specs.Calm.{Move, Takes, Calms, Left, Next, moves, moved, next_of, all_left, calm_fuel, calmed}
 use Rattle.ld_machine.specs.Run.{flows, step, state_after}
 use Rattle.std.specs.Ordering.{nat_cmp}
 use Rattle.std.specs.BTreeMap.{is_at}
@@ -161,6 +162,7 @@ module _ (P : Node → Type 0) (K : NodeKeeps P) where
   event_keeps c s (events.Tear n k p) a = either _ _ (unchanged s) (all_with s n _ (K.faults (node_at s n) _ (a n)) a) a
   event_keeps c s (events.Set l r x set) a = either (Step.can_set c l r x (members set)) _ (unchanged s) a a
   event_keeps c s (events.Replace n other l) a = either (has_node c n && Step.can_replace c s n other l) _ (unchanged s) (replaced_kept s n other l _ (swap s.register l (log_of (node_at s n).plain l).lost_to other n).register (swap s.register l (log_of (node_at s n).plain l).lost_to other n).answer a) a
+  event_keeps c s events.Calm a = a
   event_keeps c s (events.RegFail k done) a = a
 
   finished : (d : Done) → AllNodes P d.state → AllNodes P (finish d).state
@@ -177,6 +179,22 @@ module _ (P : Node → Type 0) (K : NodeKeeps P) where
   flows_keep : (k : ℕ) (c : Config) (s : State) → AllNodes P s → AllNodes P (flows k c s).state
   flows_keep zero c s a = a
   flows_keep (suc k) c s a = flow_case k c s (λ t b. flows_keep k c t b) a (oldest_new s.network)
+
+  -- so does each step of a run
+  pub move_keeps : (c : Config) (s : State) (m : Move) → AllNodes P s → AllNodes P (moves c s m).state
+  move_keeps c s (Takes e) a = event_keeps c s e a
+  move_keeps c s (Calms name) a = on_live_kept s (find_named name s.sequencers) _ (λ q. a) a
+
+  -- the case of a calm: nothing is left, or the next step is taken and the calm goes on
+  calm_case : (k : ℕ) (c : Config) (s : State) → ((t : State) (ps : List Left) → AllNodes P t → AllNodes P (calmed k c t ps).state) → AllNodes P s → (o : Option Next)
+      → AllNodes P (elim o as (λ _. Stepped) [ None ↦ record { state = s; lines = [] } | Some x ↦ (let r : Stepped = moved c s x.move in let rest : Stepped = calmed k c r.state x.left in record { state = rest.state; lines = r.lines ++ rest.lines }) ]).state
+  calm_case k c s ih a None = a
+  calm_case k c s ih a (Some x) = ih (moved c s x.move).state x.left (finished (moves c s x.move) (move_keeps c s x.move a))
+
+  calms_keep : (k : ℕ) (c : Config) (s : State) (ps : List Left) → AllNodes P s → AllNodes P (calmed k c s ps).state
+  unfolding calmed
+  calms_keep zero c s ps a = a
+  calms_keep (suc k) c s ps a = calm_case k c s (λ t qs b. calms_keep k c t qs b) a (next_of c s ps)
 
   pub step_keeps : (c : Config) (s : State) (e : Event) → AllNodes P s → AllNodes P (step c s e).state
   unfolding step
@@ -202,6 +220,7 @@ module _ (P : Node → Type 0) (K : NodeKeeps P) where
   step_keeps c s (events.Tear n k p) a = finished (Step.happens c s (events.Tear n k p)) (event_keeps c s (events.Tear n k p) a)
   step_keeps c s (events.Set l r x set) a = finished (Step.happens c s (events.Set l r x set)) (event_keeps c s (events.Set l r x set) a)
   step_keeps c s (events.Replace n other l) a = finished (Step.happens c s (events.Replace n other l)) (event_keeps c s (events.Replace n other l) a)
+  step_keeps c s events.Calm a = calms_keep (calm_fuel c s) c s (all_left c s) a
   step_keeps c s (events.RegFail k done) a = finished (Step.happens c s (events.RegFail k done)) (event_keeps c s (events.RegFail k done) a)
 
   fresh_at : (y : ℕ) (ns : List ℕ) → P (unwrap_or (find y (new_nodes ns)) new_node)

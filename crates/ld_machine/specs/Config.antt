@@ -1,23 +1,12 @@
 -- What a run asks of its configuration.
-use Rattle.std.specs.Prelude.{ℕ, List, [], ◌∷◌, ◌==◌, Bool, if◌then◌else◌}
-use Rattle.ld_table.specs.Words.{is_in, any_of}
-use Rattle.ld_ids.specs.Set.{no_nodes, members}
+use Rattle.std.specs.Prelude.{ℕ, List, Bool}
+use Rattle.ld_table.specs.Words.{is_in}
+use Rattle.ld_ids.specs.Set.{members}
 use Rattle.ld_ids.specs.declared.set.Spec.{Spec}
 use Rattle.ld_config.specs.declared.config.Config.{Config}
 use Rattle.ld_ids.specs.Choice.{nodes_of}
 use Rattle.ld_msg.specs.Register.{Register, View, look, epochs_of, fixed_shown}
-
--- a log that the configuration lacks
-abbrev pub no_spec : ℕ → Spec
-no_spec l = record { log = l; set = no_nodes; r = 0; extras = 0 }
-
-abbrev pub spec_in : ℕ → List Spec → Spec
-spec_in l [] = no_spec l
-spec_in l (s ∷ ss) = if s.log == l then s else spec_in l ss
-
--- the nodes, factor and extras that count for a log as long as nothing else is set
-abbrev pub first_spec : Config → ℕ → Spec
-first_spec c l = spec_in l c.logs
+pub use Rattle.ld_machine.specs.Logs.{no_spec, spec_in, first_spec, has_log}
 
 -- all nodes
 abbrev pub all_nodes : Config → List ℕ
@@ -38,9 +27,6 @@ fixed_at c r l e = nodes_of (fixed_of c r l e)
 -- the nodes, factor and extras of an epoch of a log, as swaps left them
 abbrev pub spec_of : Config → Register → ℕ → ℕ → Spec
 spec_of c r l e = (looks_at c r l e).spec
-
-abbrev pub has_log : Config → ℕ → Bool
-has_log c l = any_of (λ s. s.log == l) c.logs
 
 abbrev pub has_node : Config → ℕ → Bool
 has_node c n = is_in n (members c.nodes)

@@ -1,5 +1,5 @@
 -- What is read from a run's steps: what was appended, acknowledged and trimmed, what readers got, and which nodes stood lost.
-use Rattle.std.specs.Prelude.{ℕ, ◌≡◌, List, [], ◌∷◌, ◌++◌, filter_map, flat_map, Option, Some, None, Bool, true, false, ◌⊎◌, ◌&&◌, ◌==◌, nat_lt, nat_le, if◌then◌else◌, slice_get}
+use Rattle.std.specs.Prelude.{ℕ, ◌≡◌, List, [], ◌∷◌, ◌++◌, filter_map, flat_map, Option, Some, None, Bool, true, false, not, ◌⊎◌, ◌&&◌, ◌==◌, nat_le, if◌then◌else◌, slice_get}
 use Rattle.std.specs.Option.{unwrap_or}
 use Rattle.ld_table.specs.Table.{find}
 use Rattle.ld_table.specs.Named.{same}
@@ -12,9 +12,8 @@ use Rattle.ld_transcript.specs.declared.line.GapKind.{GapKind}
 use Rattle.ld_ids.specs.declared.set.Spec.{Spec}
 use Rattle.ld_config.specs.declared.config.Config.{Config}
 use Rattle.ld_batch.specs.Batch.{packed}
-use Rattle.ld_msg.specs.Register.{Register, epochs_of}
-use Rattle.ld_machine.specs.Config.{has_log}
-use Rattle.ld_machine.specs.Step.{message_lines_from}
+use Rattle.ld_machine.specs.Logs.{has_log}
+use Rattle.ld_machine.specs.Lines.{message_lines_from}
 
 -- the nodes, factor and extras of a log's epochs, as a swap left them
 pub record Swapped : Type 0 where
@@ -27,16 +26,6 @@ pub record Happened : Type 0 where
   pub lines : List Line
   pub made : Option (ℕ × ℕ)
   pub swapped : Option Swapped
-
--- what an event made of a register: an activation makes an epoch or none
-abbrev pub epoch_made : Register → Register → Event → Option (ℕ × ℕ)
-epoch_made before after (events.Activate name l) = if nat_lt (epochs_of before l).epoch (epochs_of after l).epoch then Some (l, (epochs_of after l).epoch) else None
-epoch_made before after _ = None
-
--- what a swap left that an event made
-abbrev pub swap_made : Register → Register → Event → Option Swapped
-swap_made before after (events.Replace n other l) = if nat_lt (epochs_of before l).swaps (epochs_of after l).swaps then Some (record { log = l; specs = (epochs_of after l).swapped }) else None
-swap_made before after _ = None
 
 -- ---- the nodes, factor and extras of an epoch ----
 
@@ -92,26 +81,29 @@ log_activated s ls _ = None
 abbrev pub sequencer_log : List ℕ → List Happened → Option ℕ
 sequencer_log s hs = first (filter_map (λ h. log_activated s h.lines h.event) hs)
 
--- an open that was taken
+-- an open that was taken: of a log, from a number to another one, for messages or for records
 pub record Opening : Type 0 where
   pub log : ℕ
   pub from : ℕ
   pub until : ℕ
+  pub messages : Bool
 
-abbrev pub wrote_nothing : List Line → Bool
-wrote_nothing (lines.Nothing ∷ []) = true
-wrote_nothing _ = false
+-- a line refuses to open the reader
+abbrev pub refuses_reader : List ℕ → Line → Bool
+refuses_reader r (lines.RefusedRange name) = same name r
+refuses_reader r (lines.RefusedFull name) = same name r
+refuses_reader r _ = false
 
-abbrev pub opened_as : Config → List ℕ → List Line → List ℕ → ℕ → ℕ → ℕ → Option Opening
-opened_as c r ls name l from until = if (same name r && has_log c l) && wrote_nothing ls then Some (record { log = l; from = from; until = until }) else None
+abbrev pub opened_as : Config → List ℕ → List Line → Bool → List ℕ → ℕ → ℕ → ℕ → Option Opening
+opened_as c r ls messages name l from until = if (same name r && has_log c l) && not (any_of (refuses_reader r) ls) then Some (record { log = l; from = from; until = until; messages = messages }) else None
 
 abbrev pub opening_of : Config → List ℕ → List Line → Event → Option Opening
-opening_of c r ls (events.Open name l from until) = opened_as c r ls name l from until
-opening_of c r ls (events.OpenOne name l from until) = opened_as c r ls name l from until
-opening_of c r ls (events.OpenMessages name l from until) = opened_as c r ls name l from until
+opening_of c r ls (events.Open name l from until) = opened_as c r ls false name l from until
+opening_of c r ls (events.OpenOne name l from until) = opened_as c r ls false name l from until
+opening_of c r ls (events.OpenMessages name l from until) = opened_as c r ls true name l from until
 opening_of c r ls _ = None
 
--- how a reader was opened: the first open of its name that wasn't refused
+-- how a reader was opened: the first open of its name, for a log that is there, that wasn't refused
 abbrev pub opening : Config → List ℕ → List Happened → Option Opening
 opening c r hs = first (filter_map (λ h. opening_of c r h.lines h.event) hs)
 
@@ -120,6 +112,11 @@ opening c r hs = first (filter_map (λ h. opening_of c r h.lines h.event) hs)
 -- a line of step k
 abbrev pub Writes : List Happened → ℕ → Line → Type 0
 Writes hs k x = (h : Happened) × (slice_get hs k ≡ Some h) × (i : ℕ) × (slice_get h.lines i ≡ Some x)
+
+-- the number that a line says was appended
+abbrev pub number_appended : Line → Option ℕ
+number_appended (lines.Appended name n) = Some n
+number_appended _ = None
 
 abbrev pub OfLog : List Happened → ℕ → List ℕ → Type 0
 OfLog hs l s = sequencer_log s hs ≡ Some l

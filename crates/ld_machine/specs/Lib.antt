@@ -1,7 +1,10 @@
+pub mod Logs
+pub mod Lines
 pub mod Config
 pub mod Disk
 pub mod State
 pub mod Step
+pub mod Calm
 pub mod World
 pub mod Invariant
 pub mod Facts

@@ -1,5 +1,5 @@
 -- Runs.
-use Rattle.std.specs.Prelude.{ℕ, suc, zero, List, [], ◌∷◌, ◌++◌, take, drop, Some, None}
+use Rattle.std.specs.Prelude.{ℕ, suc, zero, List, [], ◌∷◌, ◌++◌, take, drop, Option, Some, None, nat_lt, if◌then◌else◌}
 use Rattle.ld_schedule.specs.declared.event.Event.{Event}
 use Rattle.ld_schedule.specs.declared.event.Event.TheVariants as events
 use Rattle.ld_transcript.specs.declared.line.Line.{Line}
@@ -7,9 +7,12 @@ use Rattle.ld_transcript.specs.Text.{text}
 use Rattle.ld_config.specs.Bounds.{IsInBounds}
 use Rattle.ld_config.specs.declared.config.Config.{Config}
 use Rattle.ld_msg.specs.Network.{oldest_new}
+use Rattle.ld_msg.specs.Register.{Register, epochs_of}
 use Rattle.ld_machine.specs.State.{State, Stepped, start, finish, or_none}
 use Rattle.ld_machine.specs.Step.{happens, delivers}
-use Rattle.ld_machine.specs.Facts.{Happened, epoch_made, swap_made}
+pub use Rattle.ld_machine.specs.Calm.{Move, Takes, Calms}
+use Rattle.ld_machine.specs.Calm.{Left, Next, moved, event_of, next_of, all_left, calm_fuel, calm_moves, calms}
+use Rattle.ld_machine.specs.Facts.{Happened, Swapped}
 use Rattle.ld_machine.specs.Safe.{Safe}
 use Rattle.ld_machine.specs.World.{World, begin, made_on, joined_on}
 use Rattle.ld_machine.specs.Invariant.{Invariant}
@@ -27,6 +30,7 @@ flowed r = record { state = r.state; lines = or_none r.lines }
 
 unfoldable pub step : Config → State → Event → Stepped
 step c s (events.Flow k) = flowed (flows k c s)
+step c s events.Calm = flowed (calms c s)
 step c s e = finish (happens c s e)
 
 -- the state after some events, and their lines
@@ -48,9 +52,15 @@ part low count c es = text (take count (drop low (lines_of c (start c) es)))
 
 -- ---- the steps of a run, one for each delivery of a flow ----
 
--- what one step takes: an event; of a flow each delivery is one
-pub data Move : Type 0 where
-  Takes : (event : Event) → Move
+-- what an event made of a register: an activation makes an epoch or none
+abbrev pub epoch_made : Register → Register → Event → Option (ℕ × ℕ)
+epoch_made before after (events.Activate name l) = if nat_lt (epochs_of before l).epoch (epochs_of after l).epoch then Some (l, (epochs_of after l).epoch) else None
+epoch_made before after _ = None
+
+-- what a swap left that an event made
+abbrev pub swap_made : Register → Register → Event → Option Swapped
+swap_made before after (events.Replace n other l) = if nat_lt (epochs_of before l).swaps (epochs_of after l).swaps then Some (record { log = l; specs = (epochs_of after l).swapped }) else None
+swap_made before after _ = None
 
 -- a step that an event made, as it is told
 abbrev pub made_by : State → Event → Stepped → Happened
@@ -70,9 +80,18 @@ flow_steps (suc k) c s = elim (oldest_new s.network) [
 abbrev pub one_step : State → Event → Stepped → Went
 one_step s e r = record { state = r.state; happened = made_by s e r ∷ [] }
 
+-- the steps of a calm
+unfoldable pub calm_steps : ℕ → Config → State → List Left → Went
+calm_steps zero c s ps = record { state = s; happened = [] }
+calm_steps (suc k) c s ps = elim (next_of c s ps) [
+  | None ↦ record { state = s; happened = [] }
+  | Some x ↦ (let r : Stepped = moved c s x.move in let rest : Went = calm_steps k c r.state x.left in record { state = rest.state; happened = made_by s (event_of x.move) r ∷ rest.happened })
+]
+
 -- the steps of one event
 unfoldable pub steps_of : Config → State → Event → Went
 steps_of c s (events.Flow k) = flow_steps k c s
+steps_of c s events.Calm = calm_steps (calm_fuel c s) c s (all_left c s)
 steps_of c s e = one_step s e (finish (happens c s e))
 
 unfoldable pub history_from : Config → State → List Event → List Happened
@@ -89,6 +108,7 @@ flow_moves (suc k) c s = elim (oldest_new s.network) [ None ↦ [] | Some i ↦ 
 
 abbrev pub moves_of : Config → State → Event → List Move
 moves_of c s (events.Flow k) = flow_moves k c s
+moves_of c s events.Calm = calm_moves c s
 moves_of c s e = Takes e ∷ []
 
 abbrev pub moves_from : Config → State → List Event → List Move
@@ -105,26 +125,30 @@ EveryRunIsSafe = (c : Config) (es : List Event) → IsInBounds c → Safe c (his
 
 -- ---- the world along a run ----
 
--- what an event makes of a world
-abbrev pub next_world : Config → World → Event → World
-next_world c w e = record { state = (finish (happens c w.state e)).state; made = made_on c w.state e ++ w.made; joined = joined_on w.state (finish (happens c w.state e)).state e ++ w.joined }
-
--- what a step makes of it
+-- what a step makes of a world
 abbrev pub after_step : Config → World → Move → World
-after_step c w (Takes e) = next_world c w e
+after_step c w m = record {
+  state = (moved c w.state m).state;
+  made = made_on c w.state (event_of m) ++ w.made;
+  joined = joined_on w.state (moved c w.state m).state (event_of m) ++ w.joined;
+}
+
+-- what an event makes of it
+abbrev pub next_world : Config → World → Event → World
+next_world c w e = after_step c w (Takes e)
 
 -- after these steps
 unfoldable pub world_after : Config → World → List Move → World
 world_after c w [] = w
 world_after c w (m ∷ ms) = world_after c (after_step c w m) ms
 
--- an event, as it is told
-abbrev pub happened : Config → State → Event → Happened
-happened c s e = made_by s e (finish (happens c s e))
-
 -- a step, as it is told
 abbrev pub step_happened : Config → State → Move → Happened
-step_happened c s (Takes e) = happened c s e
+step_happened c s m = made_by s (event_of m) (moved c s m)
+
+-- an event, as it is told
+abbrev pub happened : Config → State → Event → Happened
+happened c s e = step_happened c s (Takes e)
 
 -- these steps, as they are told
 abbrev pub trace : Config → World → List Move → List Happened

@@ -27,6 +27,7 @@ use Rattle.ld_op.specs.Handles.{ballot_of, handled_by, answer_message}
 use Rattle.ld_config.specs.declared.config.Config.{Config}
 use Rattle.ld_batch.specs.Batch.{packed, Unpacked, Messages, Bad, unpacked}
 use Rattle.ld_machine.specs.Config.{first_spec, all_nodes, looks_at, has_log, has_node}
+pub use Rattle.ld_machine.specs.Lines.{message_lines_from}
 use Rattle.ld_msg.specs.Register.{Register, Changed, Answer, Granted, AtLimit, Behind, Overtaken, Fails, epochs_of, epochs_in, generation_of, lce_of, activate, draw, swap, swappable}
 use Rattle.ld_machine.specs.Disk.{Node, Fault, new_node, is_up, is_blank, is_down, is_failed, Kept, Written, DiskFailed, Crashed, JournalFull, keep_op, keep_end, load, load_end, Down}
 use Rattle.ld_msg.specs.Network.{message, mark, posted}
@@ -171,10 +172,6 @@ item_line name s until HoleHere = lines.Gap name gaps.Hole s s
 item_line name s until (BridgeTo last) = lines.Gap name gaps.Bridge s (if nat_lt until last then until else last)
 item_line name s until LossHere = lines.Gap name gaps.DataLoss s s
 item_line name s until (LossTo last) = lines.Gap name gaps.DataLoss s (if nat_lt until last then until else last)
-
-abbrev pub message_lines_from : List ℕ → ℕ → ℕ → List (List ℕ) → List Line
-message_lines_from name s index [] = []
-message_lines_from name s index (m ∷ ms) = lines.BatchMessage name s index m ∷ message_lines_from name s (index + 1) ms
 
 -- the messages of a batch, and of another payload the record
 abbrev pub payload_lines : List ℕ → ℕ → List ℕ → Unpacked → List Line
@@ -329,7 +326,7 @@ sets c s l r x set =
     if can_set c l r x (members set) then with_line (record s { specs = put l (record { log = l; set = set; r = r; extras = x }) s.specs }) (lines.Set l r x set)
     else unchanged s
 
--- what an event does; a flow is some deliveries, each a step of its own
+-- what an event does; a flow and a calm are some steps, each of its own
 unfoldable pub happens : Config → State → Event → Done
 happens c s (events.Format n) = where_node c s n (is_blank (node_at s n).status) (formats c s n)
 happens c s (events.Activate name l) = if has_log c l && not (is_some (find_named name s.sequencers)) then activates c s name l (activate s.register l (spec_set c s l)) else unchanged s
@@ -341,6 +338,7 @@ happens c s (events.Drop name) = live s name (λ q. only_state (with_sequencer s
 happens c s (events.Deliver i) = delivers c s i
 happens c s (events.Lose i) = only_state (marked s i)
 happens c s (events.Flow k) = unchanged s
+happens c s events.Calm = unchanged s
 happens c s (events.Open name l from until) = opens_new c s styles.EachCopy name l from until
 happens c s (events.OpenOne name l from until) = opens_new c s styles.OneCopy name l from until
 happens c s (events.OpenMessages name l from until) = opens_new c s styles.OfMessages name l from until

@@ -6,7 +6,7 @@ use Rattle.ld_ids.specs.Bytes.{AreBytes, hex_text}
 use Rattle.ld_ids.specs.Id.{IsNode, IsLog}
 use Rattle.ld_schedule.specs.declared.event.Picture.{Picture}
 use Rattle.ld_schedule.specs.declared.event.Event.{Event}
-use Rattle.ld_schedule.specs.declared.event.Event.TheVariants.{Format, Activate, Append, Batch, Trim, Retry, Drop, Deliver, Lose, Flow, Open, OpenOne, OpenMessages, Poll, Tick, Down, Up, Wipe, Fail, Tear, Set, Replace, RegFail}
+use Rattle.ld_schedule.specs.declared.event.Event.TheVariants.{Format, Activate, Append, Batch, Trim, Retry, Drop, Deliver, Lose, Flow, Open, OpenOne, OpenMessages, Poll, Tick, Down, Up, Wipe, Fail, Tear, Set, Replace, Calm, RegFail}
 use Rattle.ld_schedule.specs.declared.form.Form.{Form}
 use Rattle.ld_schedule.specs.declared.form.Form.TheVariants as forms
 use Rattle.ld_schedule.specs.declared.form.NodeForm.TheVariants as node_forms
@@ -23,6 +23,7 @@ use Rattle.ld_schedule.specs.Form.{IsOfForm}
 use Rattle.ld_schedule.specs.declared.fault.LineFault.{LineFault}
 use Rattle.ld_schedule.specs.Reading.{IsText, IsRead}
 use Rattle.ld_schedule.proofs.Faults.{fault_along}
+use Rattle.ld_schedule.proofs.OneOf.{only}
 
 abbrev pub itself : List ℕ → List ℕ
 itself name = name
@@ -346,3 +347,13 @@ back_regfail _ is = let other = is.form_is in cc
 pub form_regfail : IsFormOf (both is_count Always) (behind (codes "regfail ") (joined count_text 32 done_word)) make_regfail (forms.Count count_forms.RegFail)
 unfolding event_text
 form_regfail = record { into = λ v can. (record { form_is = refl; can = can.0 }, refl); back = back_regfail }
+
+back_calm : (w : Event) → IsOfForm forms.Calm w → (v : Unit {0}) × Always v × (only (codes "calm") v ≡ event_text w)
+unfolding event_text
+back_calm Calm is = (tt, tt, refl)
+back_calm _ is = let other = is.form_is in cc
+
+-- the event whose line is its word alone
+pub form_calm : IsFormOf Always (only (codes "calm")) (λ v. Calm) forms.Calm
+unfolding event_text
+form_calm = record { into = λ v can. (record { form_is = refl; can = tt }, refl); back = back_calm }

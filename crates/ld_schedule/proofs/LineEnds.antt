@@ -1,8 +1,9 @@
 -- No text of an event has the byte that ends a line.
 use Rattle.std.specs.Prelude.{Bool}
-use Rattle.std.proofs.Common.{inl, ℕ, ◌<◌, ◌^◌, List, [], ◌∷◌, ◌++◌, true, false, refl, arith, decimal}
+use Rattle.std.proofs.Common.{inl, inr, sym, subst, ℕ, ◌<◌, ◌^◌, List, [], ◌∷◌, ◌++◌, true, false, refl, arith, decimal}
 use Rattle.std.specs.List.{All}
 use Rattle.std.proofs.lemmas.List.Elements.{All-head, All-tail}
+use Rattle.std.proofs.lemmas.Bool.{cases_Bool}
 use Rattle.hex.specs.Hex.{encode_lower}
 use Rattle.ld_lsn.specs.Text.{Lacks}
 use Rattle.ld_lsn.specs.Number.{epoch_of, esn_of, pair_text, lsn_text}
@@ -13,15 +14,16 @@ use Rattle.ld_ids.specs.Set.{members, numbers_text}
 use Rattle.ld_schedule.specs.declared.event.Picture.{Picture}
 use Rattle.ld_schedule.specs.declared.event.Picture.TheVariants as pictures
 use Rattle.ld_schedule.specs.declared.event.Event.{Event}
-use Rattle.ld_schedule.specs.declared.event.Event.TheVariants.{Format, Activate, Append, Batch, Trim, Retry, Drop, Deliver, Lose, Flow, Open, OpenOne, OpenMessages, Poll, Tick, Down, Up, Wipe, Fail, Tear, Set, Replace, RegFail}
+use Rattle.ld_schedule.specs.declared.event.Event.TheVariants.{Format, Activate, Append, Batch, Trim, Retry, Drop, Deliver, Lose, Flow, Open, OpenOne, OpenMessages, Poll, Tick, Down, Up, Wipe, Fail, Tear, Set, Replace, Calm, RegFail}
 use Rattle.ld_schedule.specs.Grammar.{IsName, IsLsn, IsPicture, is_name_byte, is_digit, IsNodes, picture_text, done_text, nodes_text, messages_text, IsNamed, event_text, blank}
 use Rattle.ld_schedule.specs.Form.{form_of}
+use Rattle.ld_schedule.specs.declared.form.Form.TheVariants as forms
 use Rattle.ld_schedule.specs.Rising.{IsRising}
 use Rattle.ld_schedule.specs.WordLaws.{decimal_lacks}
 use Rattle.ld_schedule.proofs.Rising.{members_rising}
 use Rattle.ld_schedule.proofs.HexTexts.{encode_passes}
 use Rattle.ld_schedule.proofs.MessageLists.{passed_lack}
-use Rattle.ld_schedule.proofs.OneEvent.{byte_bytes, word_of, words_lack, parts_of, text_parts}
+use Rattle.ld_schedule.proofs.OneEvent.{byte_bytes, word_of, words_lack, parts_of, text_parts, is_calm, calm_is}
 
 name_10 : (name : List ℕ) → IsName name → Lacks 10 name
 name_10 name named = passed_lack is_name_byte 10 refl name named.2
@@ -94,7 +96,12 @@ parts_10 (Fail n k) can = between (decimal n) (decimal k) (number_10 n (omega (a
 parts_10 (Tear n k p) can = between (decimal n) (decimal k ++ blank ∷ picture_text p) (number_10 n (omega (arith, can.0.1))) (between (decimal k) (picture_text p) (number_10 k (omega (arith, can.1.1))) (picture_10 p can.2))
 parts_10 (Set l r x s) can = between (decimal l) (decimal r ++ blank ∷ (decimal x ++ blank ∷ nodes_text s)) (number_10 l (omega (arith, can.0.1))) (between (decimal r) (decimal x ++ blank ∷ nodes_text s) (number_10 r (omega (arith, can.1.1))) (between (decimal x) (nodes_text s) (number_10 x (omega (arith, can.2))) (nodes_10 s can.3)))
 parts_10 (Replace n m l) can = between (decimal n) (decimal m ++ blank ∷ decimal l) (number_10 n (omega (arith, can.0.1))) (between (decimal m) (decimal l) (number_10 m (omega (arith, can.1.1))) (number_10 l (omega (arith, can.2.1))))
+parts_10 Calm can = tt
 parts_10 (RegFail k d) can = between (decimal k) (done_text d) (number_10 k (omega (arith, can.1))) (done_10 d)
 
 pub text_lacks : (e : Event) → IsNamed e → Lacks 10 (event_text e)
-text_lacks e can = rw (text_parts e) (between (word_of (form_of e)) (parts_of e) (words_lack 10 (form_of e) refl) (parts_10 e can))
+unfolding event_text
+text_lacks e can = elim (cases_Bool (is_calm e)) [
+  | inl p ↦ subst (λ f. Lacks 10 (event_text f)) (sym (calm_is e p)) (words_lack 10 forms.Calm refl)
+  | inr p ↦ rw (text_parts e p) (between (word_of (form_of e)) (parts_of e) (words_lack 10 (form_of e) refl) (parts_10 e can))
+]

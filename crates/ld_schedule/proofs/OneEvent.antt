@@ -1,8 +1,8 @@
 -- A text is that of one event.
 use Rattle.std.specs.Prelude.{codes, Bool, ◌&&◌, if◌then◌else◌, ◌==◌, Result}
 use Rattle.std.specs.Cmp.Lexicographic.{pointwise}
-use Rattle.std.proofs.Common.{◌≡◌, ℕ, zero, suc, ◌-◌, ◌<◌, subst, List, [], ◌∷◌, ◌++◌, length, get_or, true, false, refl, sym, ap, ◌∙◌, arith, decimal, Ok}
-use Rattle.std.proofs.lemmas.Bool.{and_parts}
+use Rattle.std.proofs.Common.{◌≡◌, inl, inr, ℕ, zero, suc, ◌-◌, ◌<◌, subst, List, [], ◌∷◌, ◌++◌, length, get_or, true, false, refl, sym, ap, ◌∙◌, arith, decimal, Ok}
+use Rattle.std.proofs.lemmas.Bool.{and_parts, cases_Bool}
 use Rattle.std.proofs.lemmas.List.Elements.{All-head, All-tail}
 use Rattle.std.proofs.lemmas.Fmt.{decimal_injective}
 use Rattle.hex.specs.Hex.{lower_digits, decode_of}
@@ -15,7 +15,7 @@ use Rattle.ld_ids.specs.Bytes.{AreBytes, hex_text}
 use Rattle.ld_ids.specs.Id.{IsNode, IsLog}
 use Rattle.ld_schedule.specs.declared.event.Picture.TheVariants as pictures
 use Rattle.ld_schedule.specs.declared.event.Event.{Event}
-use Rattle.ld_schedule.specs.declared.event.Event.TheVariants.{Format, Activate, Append, Batch, Trim, Retry, Drop, Deliver, Lose, Flow, Open, OpenOne, OpenMessages, Poll, Tick, Down, Up, Wipe, Fail, Tear, Set, Replace, RegFail}
+use Rattle.ld_schedule.specs.declared.event.Event.TheVariants.{Format, Activate, Append, Batch, Trim, Retry, Drop, Deliver, Lose, Flow, Open, OpenOne, OpenMessages, Poll, Tick, Down, Up, Wipe, Fail, Tear, Set, Replace, Calm, RegFail}
 use Rattle.ld_schedule.specs.declared.form.Form.{Form}
 use Rattle.ld_schedule.specs.declared.form.Form.TheVariants as forms
 use Rattle.ld_schedule.specs.declared.form.NodeForm.TheVariants as node_forms
@@ -149,6 +149,7 @@ word_of (forms.Name name_forms.Batch) = codes "batch"
 word_of (forms.Name name_forms.OpenOne) = codes "openone"
 word_of (forms.Name name_forms.OpenMessages) = codes "openmsgs"
 word_of (forms.Count count_forms.RegFail) = codes "regfail"
+word_of forms.Calm = codes "calm"
 
 abbrev is_word : List ℕ → List ℕ → Bool
 is_word = pointwise ◌==◌
@@ -178,6 +179,7 @@ told word =
     else if is_word word (codes "batch") then (forms.Name name_forms.Batch)
     else if is_word word (codes "openone") then (forms.Name name_forms.OpenOne)
     else if is_word word (codes "openmsgs") then (forms.Name name_forms.OpenMessages)
+    else if is_word word (codes "calm") then forms.Calm
     else (forms.Count count_forms.RegFail)
 
 told_again : (form : Form) → told (word_of form) ≡ form
@@ -204,6 +206,7 @@ told_again (forms.Name name_forms.Batch) = refl
 told_again (forms.Name name_forms.OpenOne) = refl
 told_again (forms.Name name_forms.OpenMessages) = refl
 told_again (forms.Count count_forms.RegFail) = refl
+told_again forms.Calm = refl
 
 abbrev are_letters : List ℕ → Bool
 are_letters [] = true
@@ -233,6 +236,7 @@ letters_of (forms.Name name_forms.Batch) = refl
 letters_of (forms.Name name_forms.OpenOne) = refl
 letters_of (forms.Name name_forms.OpenMessages) = refl
 letters_of (forms.Count count_forms.RegFail) = refl
+letters_of forms.Calm = refl
 
 letters_lack : (c : ℕ) (xs : List ℕ) → is_name_byte c ≡ false → are_letters xs ≡ true → Lacks c xs
 letters_lack c [] other are = tt
@@ -268,37 +272,49 @@ parts_of (Fail n k) = decimal n ++ blank ∷ decimal k
 parts_of (Tear n k p) = decimal n ++ blank ∷ (decimal k ++ blank ∷ picture_text p)
 parts_of (Set l r x s) = decimal l ++ blank ∷ (decimal r ++ blank ∷ (decimal x ++ blank ∷ nodes_text s))
 parts_of (Replace n m l) = decimal n ++ blank ∷ (decimal m ++ blank ∷ decimal l)
+parts_of Calm = []
 parts_of (RegFail k d) = decimal k ++ blank ∷ done_text d
 
-pub text_parts : (e : Event) → event_text e ≡ word_of (form_of e) ++ 32 ∷ parts_of e
-unfolding event_text
-text_parts (Format n) = refl
-text_parts (Activate s l) = refl
-text_parts (Append s p) = refl
-text_parts (Batch s ms) = refl
-text_parts (Trim s p) = refl
-text_parts (Retry s) = refl
-text_parts (Drop s) = refl
-text_parts (Deliver i) = refl
-text_parts (Lose i) = refl
-text_parts (Flow k) = refl
-text_parts (Open s l f u) = refl
-text_parts (OpenOne s l f u) = refl
-text_parts (OpenMessages s l f u) = refl
-text_parts (Poll s) = refl
-text_parts (Tick n l) = refl
-text_parts (Down n) = refl
-text_parts (Up n) = refl
-text_parts (Wipe n) = refl
-text_parts (Fail n k) = refl
-text_parts (Tear n k p) = refl
-text_parts (Set l r x s) = refl
-text_parts (Replace n m l) = refl
-text_parts (RegFail k d) = refl
+-- the event whose line is its word alone
+abbrev pub is_calm : Event → Bool
+is_calm Calm = true
+is_calm _ = false
 
-same_form : (a b : Event) → event_text a ≡ event_text b → AreSame (form_of a) (form_of b) (parts_of a) (parts_of b)
-same_form a b e =
-    let parts = parted 32 (word_of (form_of a)) (word_of (form_of b)) (parts_of a) (parts_of b) (words_lack 32 (form_of a) refl) (words_lack 32 (form_of b) refl) (sym (text_parts a) ∙ e ∙ text_parts b) in
+pub calm_is : (e : Event) → is_calm e ≡ true → e ≡ Calm
+calm_is Calm h = refl
+calm_is _ h = absurd cc
+
+-- the line of any other event
+pub text_parts : (e : Event) → is_calm e ≡ false → event_text e ≡ word_of (form_of e) ++ 32 ∷ parts_of e
+unfolding event_text
+text_parts (Format n) h = refl
+text_parts (Activate s l) h = refl
+text_parts (Append s p) h = refl
+text_parts (Batch s ms) h = refl
+text_parts (Trim s p) h = refl
+text_parts (Retry s) h = refl
+text_parts (Drop s) h = refl
+text_parts (Deliver i) h = refl
+text_parts (Lose i) h = refl
+text_parts (Flow k) h = refl
+text_parts (Open s l f u) h = refl
+text_parts (OpenOne s l f u) h = refl
+text_parts (OpenMessages s l f u) h = refl
+text_parts (Poll s) h = refl
+text_parts (Tick n l) h = refl
+text_parts (Down n) h = refl
+text_parts (Up n) h = refl
+text_parts (Wipe n) h = refl
+text_parts (Fail n k) h = refl
+text_parts (Tear n k p) h = refl
+text_parts (Set l r x s) h = refl
+text_parts (Replace n m l) h = refl
+text_parts Calm h = absurd cc
+text_parts (RegFail k d) h = refl
+
+same_form : (a b : Event) → is_calm a ≡ false → is_calm b ≡ false → event_text a ≡ event_text b → AreSame (form_of a) (form_of b) (parts_of a) (parts_of b)
+same_form a b p q e =
+    let parts = parted 32 (word_of (form_of a)) (word_of (form_of b)) (parts_of a) (parts_of b) (words_lack 32 (form_of a) refl) (words_lack 32 (form_of b) refl) (sym (text_parts a p) ∙ e ∙ text_parts b q) in
     record { first = sym (told_again (form_of a)) ∙ ap told parts.0 ∙ told_again (form_of b); second = parts.1 }
 
 same_event : (a b : Event) → IsNamed a → IsNamed b → form_of a ≡ form_of b → parts_of a ≡ parts_of b → a ≡ b
@@ -402,11 +418,27 @@ same_event (Replace n m l) (Replace n2 m2 l2) a b form e =
     let y : m ≡ m2 = two.first in
     let z : l ≡ l2 = one_log l l2 a.2 b.2 two.second in cc
 same_event (Replace n m l) _ a b form e = absurd (cc)
+same_event Calm Calm a b form e = refl
+same_event Calm _ a b form e = absurd (cc)
 same_event (RegFail k d) (RegFail k2 d2) a b form e =
     let parts = same_parts IsCount decimal k k2 _ _ count_lacks one_count a b e in
     let x : k ≡ k2 = parts.first in
     let y : d ≡ d2 = one_done d d2 parts.second in cc
 same_event (RegFail k d) _ a b form e = absurd (cc)
 
+-- no other event has that line
+not_alone : (e : Event) → is_calm e ≡ false → event_text e ≡ codes "calm" → ⊥
+not_alone e h is = Lacks-not 32 (word_of (form_of e)) (parts_of e) (subst (Lacks 32) (sym is ∙ text_parts e h) (words_lack 32 forms.Calm refl))
+
 pub one_event : (a b : Event) → IsNamed a → IsNamed b → event_text a ≡ event_text b → a ≡ b
-one_event a b can also e = let same = same_form a b e in same_event a b can also same.first same.second
+unfolding event_text
+one_event a b can also e = elim (cases_Bool (is_calm a)) [
+  | inl p ↦ elim (cases_Bool (is_calm b)) [
+    | inl q ↦ calm_is a p ∙ sym (calm_is b q)
+    | inr q ↦ absurd (not_alone b q (sym e ∙ ap event_text (calm_is a p)))
+  ]
+  | inr p ↦ elim (cases_Bool (is_calm b)) [
+    | inl q ↦ absurd (not_alone a p (e ∙ ap event_text (calm_is b q)))
+    | inr q ↦ let same = same_form a b p q e in same_event a b can also same.first same.second
+  ]
+]

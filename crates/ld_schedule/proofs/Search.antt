@@ -6,7 +6,7 @@ use Rattle.std.proofs.lemmas.List.Elements.{All-nil, All-push, All-weaker}
 use Rattle.ld_schedule.specs.declared.fault.LineFault.{LineFault}
 use Rattle.ld_schedule.specs.declared.fault.LineFault.TheVariants.{Bad, NoMemory}
 use Rattle.ld_schedule.specs.declared.event.Event.{Event}
-use Rattle.ld_schedule.specs.declared.event.Event.TheVariants.{Format, Activate, Append, Batch, Trim, Retry, Drop, Deliver, Lose, Flow, Open, OpenOne, OpenMessages, Poll, Tick, Down, Up, Wipe, Fail, Tear, Set, Replace, RegFail}
+use Rattle.ld_schedule.specs.declared.event.Event.TheVariants.{Format, Activate, Append, Batch, Trim, Retry, Drop, Deliver, Lose, Flow, Open, OpenOne, OpenMessages, Poll, Tick, Down, Up, Wipe, Fail, Tear, Set, Replace, Calm, RegFail}
 use Rattle.ld_schedule.specs.declared.form.Form.{Form}
 use Rattle.ld_schedule.specs.declared.form.Form.TheVariants as forms
 use Rattle.ld_schedule.specs.declared.form.NodeForm.TheVariants as node_forms
@@ -83,7 +83,7 @@ abbrev pub all_forms : List Form
 all_forms =
     (forms.Node node_forms.Format) ∷ (forms.Name name_forms.Activate) ∷ (forms.Name name_forms.Append) ∷ (forms.Name name_forms.Trim) ∷ (forms.Name name_forms.Retry) ∷ (forms.Name name_forms.Drop) ∷ (forms.Count count_forms.Deliver) ∷ (forms.Count count_forms.Lose) ∷ (forms.Count count_forms.Flow) ∷ (forms.Name name_forms.Open) ∷ (forms.Name name_forms.Poll) ∷ (forms.Node node_forms.Tick) ∷ (forms.Node node_forms.Down)
     ∷ (forms.Node node_forms.Up) ∷ (forms.Node node_forms.Wipe) ∷ (forms.Node node_forms.Fail) ∷ (forms.Node node_forms.Tear) ∷ (forms.Count count_forms.Set) ∷ (forms.Node node_forms.Replace) ∷ (forms.Count count_forms.RegFail)
-    ∷ (forms.Name name_forms.Batch) ∷ (forms.Name name_forms.OpenOne) ∷ (forms.Name name_forms.OpenMessages) ∷ []
+    ∷ (forms.Name name_forms.Batch) ∷ (forms.Name name_forms.OpenOne) ∷ (forms.Name name_forms.OpenMessages) ∷ forms.Calm ∷ []
 
 each : (P : Form → Type 0) (event : Event) → All P all_forms → P (form_of event)
 each P (Format n) all = all 0 (forms.Node node_forms.Format) (omega arith)
@@ -109,6 +109,7 @@ each P (RegFail k d) all = all 19 (forms.Node node_forms.Format) (omega arith)
 each P (Batch s ms) all = all 20 (forms.Node node_forms.Format) (omega arith)
 each P (OpenOne s l f u) all = all 21 (forms.Node node_forms.Format) (omega arith)
 each P (OpenMessages s l f u) all = all 22 (forms.Node node_forms.Format) (omega arith)
+each P Calm all = all 23 (forms.Node node_forms.Format) (omega arith)
 
 of_own : (event : Event) → IsNamed event → IsOfForm (form_of event) event
 of_own event can = record { form_is = refl; can = can }

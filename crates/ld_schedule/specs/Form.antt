@@ -32,6 +32,7 @@ form_of (events.Fail n k) = (forms.Node node_forms.Fail)
 form_of (events.Tear n k p) = (forms.Node node_forms.Tear)
 form_of (events.Set l r x s) = (forms.Count count_forms.Set)
 form_of (events.Replace n m l) = (forms.Node node_forms.Replace)
+form_of events.Calm = forms.Calm
 form_of (events.RegFail k d) = (forms.Count count_forms.RegFail)
 
 -- the events that can be named, and whose line begins with this word

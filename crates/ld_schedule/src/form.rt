@@ -8,12 +8,13 @@ ghost use Rattle.ld_schedule.specs.Form.{IsOfForm};
 use crate::digits::Done;
 use crate::event::{Event, Picture};
 use crate::fault::LineFault;
-use crate::field::behind;
+use crate::field::{behind, common};
 use crate::nodes::{Extras, Factor};
 use crate::words::{Count, Place};
 use ld_batch::Messages;
 use ld_ids::{LogId, Name, NodeId, NodeSet, Payload};
 use ld_lsn::Lsn;
+use ld_lsn::text::same;
 use std::alloc::Global;
 
 /// The first word of a line that names a node.
@@ -60,6 +61,7 @@ pub enum Form {
     Node(NodeForm),
     Name(NameForm),
     Count(CountForm),
+    Calm,
 }
 
 /// The event of this form that the line spells, or how far the line goes with the form.
@@ -70,6 +72,7 @@ pub fn read(form: Form, alloc: Global, line: &[u8]) -> Result<Event, LineFault>
         Form::Node(form) => read_of_node(form, alloc, line),
         Form::Name(form) => read_of_name(form, alloc, line),
         Form::Count(form) => read_of_count(form, alloc, line),
+        Form::Calm => read_calm(line),
     }
 }
 
@@ -227,4 +230,16 @@ fn read_of_count(form: CountForm, alloc: Global, line: &[u8]) -> Result<Event, L
             Err(fault) => Err(fault),
         },
     }
+}
+
+/// The event whose line is its word alone.
+fn read_calm(line: &[u8]) -> Result<Event, LineFault>
+    ensures { IsRead (IsOfForm forms.Calm) event_text line.now result }
+{
+    if same(line, b"calm") {
+        return Ok(Event::Calm);
+    }
+    Err(LineFault::Bad {
+        place: common(line, b"calm"),
+    })
 }

@@ -9,7 +9,7 @@ use crate::form::{CountForm, Form, NameForm, NodeForm, read};
 use std::alloc::Global;
 
 /// The words that a line can begin with.
-const FORMS: [Form; 23] = [
+const FORMS: [Form; 24] = [
     Form::Node(NodeForm::Format),
     Form::Name(NameForm::Activate),
     Form::Name(NameForm::Append),
@@ -33,6 +33,7 @@ const FORMS: [Form; 23] = [
     Form::Name(NameForm::Batch),
     Form::Name(NameForm::OpenOne),
     Form::Name(NameForm::OpenMessages),
+    Form::Calm,
 ];
 
 /// The event that a line spells, without the byte 10 that ends it. A line that spells none is

@@ -1,5 +1,6 @@
 pub mod Activating
 pub mod Alike
+pub mod Announced
 pub mod Asking
 pub mod Begins
 pub mod Causes

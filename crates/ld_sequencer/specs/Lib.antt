@@ -3,3 +3,4 @@ pub mod Looks
 pub mod Own
 pub mod Register
 pub mod Whole
+pub mod Announcing

@@ -2,6 +2,7 @@
 //! closes the epochs before its own, and says what is released.
 #![tactic(auto)]
 
+mod announce;
 mod close;
 mod earlier;
 mod fault;

@@ -2,7 +2,8 @@
 ghost use Rattle.std.specs.Prelude.{◌≡◌, ◌≤◌, ◌<◌, ◌+◌, ◌-◌, ◌^◌, ◌++◌, ◌&&◌, ◌==◌, length, take, IfOk, IfErr, OnOk, OnErr, None, is_some, nat_lt, if◌then◌else◌};
 ghost use Rattle.ld_ids.specs.Set.{members};
 ghost use Rattle.ld_lsn.specs.Number.{numbered};
-ghost use Rattle.ld_msg.specs.declared.msg.Body.TheVariants.{Trim};
+ghost use Rattle.ld_ids.specs.Choice.{nodes_of};
+ghost use Rattle.ld_msg.specs.declared.msg.Body.TheVariants.{Release, Trim};
 ghost use Rattle.ld_msg.specs.Sequencer.{released_of, appending, Numbered, appended, first_stores, next_esn, to_each, does_nothing, by_stored, by_lost, by_clean, preempt as preempts, on_retry, acted_messages, payload_limit};
 ghost use Rattle.ld_msg.specs.Bounds.{IsEpoch};
 ghost use Rattle.ld_node_bounds.specs.Messages.{AreMessages};
@@ -408,6 +409,17 @@ impl OwnEpoch {
         Ok(number)
     }
 
+    /// Tells all nodes of its epoch the released number. Without memory nothing is sent.
+    pub(crate) fn tell(&self, out: &mut Outbox) -> Result<(), NoMemory>
+        ensures sent { OnOk result (out.new ≡ out.old ++ sent_by self.now (to_each (Release (released_of (sequencer_of self.now))) (nodes_of self.now.row.spec))) }
+        ensures unsent { OnErr result (out.new ≡ out.old) }
+        ensures messages { IsEpoch (sequencer_of self.now).epoch → AreMessages out.old → AreMessages out.new }
+    {
+        let released = self.released();
+        self.sender()
+            .tell(&self.row.spec().set, &Notice::Release(released), out)
+    }
+
     /// As its messages name it.
     fn sender(&self) -> Sender
         ensures log { result.log ≡ self.now.row.spec.log }
@@ -425,10 +437,8 @@ impl OwnEpoch {
         ensures unsent { OnErr result (out.new ≡ out.old) }
         ensures messages { IsEpoch (sequencer_of self.now).epoch → AreMessages out.old → AreMessages out.new }
     {
-        let released = self.released();
-        if released > before {
-            self.sender()
-                .tell(&self.row.spec().set, &Notice::Release(released), out)?;
+        if self.released() > before {
+            self.tell(out)?;
         }
         Ok(())
     }

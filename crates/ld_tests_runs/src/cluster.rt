@@ -52,6 +52,7 @@ fn counts(event: &Event) -> bool
         Event::Wipe { .. } => true,
         Event::Set { .. } => true,
         Event::Replace { .. } => true,
+        Event::Calm => true,
     }
 }
 

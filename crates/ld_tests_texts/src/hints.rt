@@ -41,8 +41,19 @@ fn nodes_by_their_word(rt: HostRuntime) {
     assert_eq!(rt; same, Ok(true));
 }
 
-/// The length of the third line of an input that is read in pieces of 4 bytes.
-fn third(alloc: Global) -> Result<usize, AllocError> {
+#[test]
+fn a_word_without_fields(rt: HostRuntime) {
+    let same = shown(
+        rt.alloc(),
+        b"calmly",
+        4,
+        "    calmly\n        ^\n    calm: the word alone\n",
+    );
+    assert_eq!(rt; same, Ok(true));
+}
+
+/// The length of the third line of an input that is read in pieces of 4 bytes, and whether the second and the third are ended.
+fn third(alloc: Global) -> Result<(usize, bool, bool), AllocError> {
     let mut source = Recent::new(
         alloc,
         MemSource::new(
@@ -55,10 +66,11 @@ fn third(alloc: Global) -> Result<usize, AllocError> {
     for _ in 0..2 {
         count = count.saturating_add(source.read(&mut buf).unwrap_or(0));
     }
-    Ok(source.line(3).map_or(100, |line| line.len()))
+    let length = source.line(3).map_or(100, |line| line.len());
+    Ok((length, source.is_ended(2), source.is_ended(3)))
 }
 
 #[test]
 fn the_last_line_is_kept(rt: HostRuntime) {
-    assert_eq!(rt; third(rt.alloc()), Ok(3));
+    assert_eq!(rt; third(rt.alloc()), Ok((3, true, false)));
 }

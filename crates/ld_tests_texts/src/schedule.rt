@@ -11,6 +11,7 @@ fn parts_of(event: &Event) -> (u8, u64, u64) {
         Event::Open { from, until, .. } => (3, from.value(), until.value()),
         Event::Set { r, set, .. } => (4, u64::from(*r), u64::from(set.bits())),
         Event::Batch { messages, .. } => (5, messages.len() as u64, messages.packed_len() as u64),
+        Event::Calm => (6, 0, 0),
         _ => (9, 0, 0),
     }
 }
@@ -26,7 +27,7 @@ fn parts(alloc: Global, line: &[u8]) -> Result<(u8, u64, u64), LineFault> {
 
 #[test]
 fn lines_are_events(rt: HostRuntime) -> Result<(), Fail> {
-    let lines: [(&[u8], (u8, u64, u64)); 7] = [
+    let lines: [(&[u8], (u8, u64, u64)); 8] = [
         (b"flow 1000000", (1, 1_000_000, 0)),
         (b"flow 1\n", (0, 6, 0)),
         (b"regfail 3 done", (2, 3, 1)),
@@ -34,6 +35,7 @@ fn lines_are_events(rt: HostRuntime) -> Result<(), Fail> {
         (b"set 65535 16 3 16", (4, 16, 0x8000)),
         (b"set 1 2 0 2,1", (0, 13, 0)),
         (b"batch a 01,-", (5, 2, 7)),
+        (b"calm", (6, 0, 0)),
     ];
     for (line, expected) in lines {
         assert_eq!(rt; parts(rt.alloc(), line)?, expected);
