@@ -1,2 +1,5 @@
 mod Runs
+mod Search
 mod Tampering
+mod ByHand
+mod Confirming

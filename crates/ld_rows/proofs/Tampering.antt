@@ -1,6 +1,6 @@
 -- Runs that were tampered with aren't safe.
-use Rattle.std.proofs.Common.{◌≡◌, ◌≤◌, ◌<◌, ◌⊎◌, ◌&&◌, ℕ, zero, suc, ◌+◌, ◌-◌, inl, inr, refl, ap, Bool, true, false, nat_lt, List, [], ◌∷◌, Option, Some, None, slice_get, take, length, ◌++◌, ◌∙◌, sym, ◌||◌, ◌==◌, arith, subst}
-use Rattle.ld_table.specs.Words.{any_of, all_of, how_many, numbers_from}
+use Rattle.std.proofs.Common.{◌≡◌, ◌<◌, ◌&&◌, ℕ, ◌-◌, inl, inr, refl, ap, Bool, true, false, nat_lt, List, [], ◌∷◌, Some, None, slice_get, length, ◌++◌, ◌∙◌, sym, ◌||◌, ◌==◌, arith, subst}
+use Rattle.ld_table.specs.Words.{any_of}
 use Rattle.ld_lsn.specs.Number.{numbered}
 use Rattle.ld_schedule.specs.declared.event.Event.{Event}
 use Rattle.ld_schedule.specs.declared.event.Event.TheVariants as events
@@ -8,12 +8,10 @@ use Rattle.ld_transcript.specs.declared.line.Line.{Line}
 use Rattle.ld_transcript.specs.declared.line.Line.TheVariants as lines
 use Rattle.ld_transcript.specs.declared.line.GapKind.{GapKind}
 use Rattle.ld_transcript.specs.declared.line.GapKind.TheVariants as gaps
-use Rattle.ld_machine.specs.Facts.{Happened, Writes, Acks, Appends, GivesRecord, GivesMessage, GivesGap, AsksToAppend, ReadsLog, spec_now, stands_lost, Interval, opening, intervals}
+use Rattle.ld_machine.specs.Facts.{Happened, Writes, Acks, Appends, GivesRecord, GivesMessage, GivesGap, AsksToAppend, ReadsLog, Interval, opening, intervals}
 use Rattle.ld_machine.specs.Safe.{Safe, TilesFrom}
-use Rattle.ld_machine.specs.Config.{first_spec}
 use Rattle.ld_batch.specs.Batch.{packed, Unpacked, Messages, Bad, unpacked, listed}
-use Rattle.ld_ids.specs.declared.set.Spec.{Spec}
-use Rattle.ld_ids.specs.Choice.{choice_at, nodes_of}
+use Rattle.ld_ids.specs.Choice.{choice_at}
 use Rattle.ld_ids.specs.Set.{members_from}
 use Rattle.ld_layout.specs.Layout.{switches, switched_to, with_record, passes_limit}
 use Rattle.ld_machine.specs.Disk.{is_found, keep_op, keep_end, load}
@@ -32,25 +30,8 @@ use Rattle.ld_table.specs.Named.{same, find_named, put_named}
 use Rattle.ld_table.specs.Table.{find, put, take_out, keep, keep_keys}
 use Rattle.ld_machine.specs.Run.{steps_of, history_from}
 use Rattle.ld_rows.specs.Schedules.{three_nodes, one_append, two_appends, one_batch, sequencer_a, reader_r}
+use Rattle.ld_rows.proofs.Search.{clash, nowhere, everywhere, few, always_few, not_few}
 use Rattle.ld_rows.specs.Tampered.{tampered_run, another_payload, a_hole, a_loss, a_trim, a_message, rewritten_run, without_gap, from_the_end, second_first, without_second}
-
--- ---- lists ----
-
-nowhere : {X : Type 0} (p : X → Bool) (xs : List X) (k : ℕ) (x : X) → any_of p xs ≡ false → slice_get xs k ≡ Some x → p x ≡ false
-nowhere p [] k x none there = grind arith
-nowhere p (y ∷ ys) zero x none there = grind arith
-nowhere p (y ∷ ys) (suc k) x none there = nowhere p ys k x (grind arith) (grind arith)
-
-at_or_above : (a j : ℕ) → a ≤ j → (j ≡ a) ⊎ (a + 1 ≤ j)
-at_or_above a j h = grind arith
-
-first_or_later : (p : ℕ → Bool) (a j : ℕ) (rest : Bool) → p a && rest ≡ true → (j ≡ a) ⊎ (a + 1 ≤ j) → (rest ≡ true → a + 1 ≤ j → p j ≡ true) → p j ≡ true
-first_or_later p a j rest all (inl is) later = grind arith
-first_or_later p a j rest all (inr above) later = later (grind arith) above
-
-everywhere : (p : ℕ → Bool) (a m j : ℕ) → all_of p (numbers_from a m) ≡ true → a ≤ j → j < a + m → p j ≡ true
-everywhere p a zero j all from to = absurd (omega arith)
-everywhere p a (suc m) j all from to = first_or_later p a j (all_of p (numbers_from (a + 1) m)) all (at_or_above a j from) (λ rest above. everywhere p (a + 1) m j rest above (omega arith))
 
 -- ---- the step that gave the record, and the facts of the run ----
 
@@ -68,25 +49,22 @@ Known f = (slice_get (run f) 23 ≡ Some (given (f reader_r number))) × ReadsLo
 
 known_payload : Known another_payload
 unfolding switches switched_to with_record passes_limit choice_at members_from is_found keep_op keep_end load finish delivers happens statement with_page with_asks with_lost digest_lng enough is_spent best digest_trim top_place plan_floor plan_end plan message on_answer is_loss decide change activate close draw look after_close is_ready is_ready_short on_reply on_retry appending activated store_decision on_store digest_decision on_digest_ask on_clean on_trim on_release read_answer summary_at apply op_length missing is_missing on_page on_tick same find_named put_named find put take_out keep keep_keys steps_of history_from
-known_payload = (refl, (record { log = 1; from = 1; until = number }, refl, refl))
+known_payload = (refl, (record { log = 1; from = 1; until = number; messages = false }, refl, refl))
 
 known_hole : Known a_hole
 unfolding switches switched_to with_record passes_limit choice_at members_from is_found keep_op keep_end load finish delivers happens statement with_page with_asks with_lost digest_lng enough is_spent best digest_trim top_place plan_floor plan_end plan message on_answer is_loss decide change activate close draw look after_close is_ready is_ready_short on_reply on_retry appending activated store_decision on_store digest_decision on_digest_ask on_clean on_trim on_release read_answer summary_at apply op_length missing is_missing on_page on_tick same find_named put_named find put take_out keep keep_keys steps_of history_from
-known_hole = (refl, (record { log = 1; from = 1; until = number }, refl, refl))
+known_hole = (refl, (record { log = 1; from = 1; until = number; messages = false }, refl, refl))
 
 known_trim : Known a_trim
 unfolding switches switched_to with_record passes_limit choice_at members_from is_found keep_op keep_end load finish delivers happens statement with_page with_asks with_lost digest_lng enough is_spent best digest_trim top_place plan_floor plan_end plan message on_answer is_loss decide change activate close draw look after_close is_ready is_ready_short on_reply on_retry appending activated store_decision on_store digest_decision on_digest_ask on_clean on_trim on_release read_answer summary_at apply op_length missing is_missing on_page on_tick same find_named put_named find put take_out keep keep_keys steps_of history_from
-known_trim = (refl, (record { log = 1; from = 1; until = number }, refl, refl))
+known_trim = (refl, (record { log = 1; from = 1; until = number; messages = false }, refl, refl))
 
 known_loss : Known a_loss
 unfolding switches switched_to with_record passes_limit choice_at members_from is_found keep_op keep_end load finish delivers happens statement with_page with_asks with_lost digest_lng enough is_spent best digest_trim top_place plan_floor plan_end plan message on_answer is_loss decide change activate close draw look after_close is_ready is_ready_short on_reply on_retry appending activated store_decision on_store digest_decision on_digest_ask on_clean on_trim on_release read_answer summary_at apply op_length missing is_missing on_page on_tick same find_named put_named find put take_out keep keep_keys steps_of history_from
-known_loss = (refl, (record { log = 1; from = 1; until = number }, refl, refl))
+known_loss = (refl, (record { log = 1; from = 1; until = number; messages = false }, refl, refl))
 
 gap_given : (f : List ℕ → ℕ → Line) (kind : GapKind) → f reader_r number ≡ lines.Gap reader_r kind number number → Known f → GivesGap three_nodes (run f) 1 kind number number 23
 gap_given f kind is known = record { name = reader_r; told = (given (f reader_r number), known.0, 0, ap (λ x. Some x) is); of_log = known.1 }
-
-clash : {b : Bool} → b ≡ true → b ≡ false → ⊥
-clash t f = cc
 
 -- ---- another payload ----
 
@@ -142,32 +120,15 @@ trim_unsafe s =
 
 -- ---- a loss ----
 
--- not so many nodes are lost as what was fixed says, as swaps left it, if anything was
-abbrev too_few : (ℕ → Bool) → Option Spec → Bool
-too_few lost None = true
-too_few lost (Some s) = nat_lt (how_many lost (nodes_of s)) s.r
-
-abbrev few : List Happened → ℕ → Bool
-few hs j = too_few (stands_lost 1 1 (take (j + 1) hs)) (spec_now 1 1 (take (j + 1) hs) (first_spec three_nodes 1))
-
-abbrev always_few : List Happened → Bool
-always_few hs = all_of (few hs) (numbers_from 0 24)
-
-few_lost : always_few (run a_loss) ≡ true
+few_lost : always_few three_nodes 24 (run a_loss) ≡ true
 unfolding switches switched_to with_record passes_limit choice_at members_from is_found keep_op keep_end load finish delivers happens statement with_page with_asks with_lost digest_lng enough is_spent best digest_trim top_place plan_floor plan_end plan message on_answer is_loss decide change activate close draw look after_close is_ready is_ready_short on_reply on_retry appending activated store_decision on_store digest_decision on_digest_ask on_clean on_trim on_release read_answer summary_at apply op_length missing is_missing on_page on_tick same find_named put_named find put take_out keep keep_keys steps_of history_from
 few_lost = refl
-
-as_many : (n m : ℕ) → m ≤ n → nat_lt n m ≡ false
-as_many n m h = grind arith
-
-not_few : (lost : ℕ → Bool) (o : Option Spec) (s : Spec) → o ≡ Some s → s.r ≤ how_many lost (nodes_of s) → too_few lost o ≡ false
-not_few lost o s is many = rw is (as_many (how_many lost (nodes_of s)) s.r many)
 
 pub loss_unsafe : Safe three_nodes (run a_loss) → ⊥
 unfolding members_from
 loss_unsafe s =
     let found = s.losses 1 number number number 23 (gap_given a_loss gaps.DataLoss refl known_loss) (omega arith) (omega arith) in
-    clash (everywhere (few (run a_loss)) 0 24 found.0 few_lost (omega arith) (omega arith)) (not_few _ _ found.2.0 found.2.1 found.2.2)
+    clash (everywhere (few three_nodes (run a_loss)) 0 24 found.0 few_lost (omega arith) (omega arith)) (not_few _ _ found.2.0 found.2.1 found.2.2)
 
 -- ---- messages ----
 
@@ -195,7 +156,7 @@ is_short u = nat_lt (length (listed u)) 2
 -- a message of no batch is given, though none was appended
 message_known : (any_of (λ h. appends_such is_batch h.event) (run a_message) ≡ false) × GivesMessage three_nodes (run a_message) 1 number 0 (0 ∷ []) 23
 unfolding switches switched_to with_record passes_limit choice_at members_from is_found keep_op keep_end load finish delivers happens statement with_page with_asks with_lost digest_lng enough is_spent best digest_trim top_place plan_floor plan_end plan message on_answer is_loss decide change activate close draw look after_close is_ready is_ready_short on_reply on_retry appending activated store_decision on_store digest_decision on_digest_ask on_clean on_trim on_release read_answer summary_at apply op_length missing is_missing on_page on_tick same find_named put_named find put take_out keep keep_keys steps_of history_from unpacked
-message_known = (refl, record { name = reader_r; told = (_, refl, 0, refl); of_log = (record { log = 1; from = 1; until = number }, refl, refl) })
+message_known = (refl, record { name = reader_r; told = (_, refl, 0, refl); of_log = (record { log = 1; from = 1; until = number; messages = false }, refl, refl) })
 
 pub message_unsafe : Safe three_nodes (run a_message) → ⊥
 message_unsafe s =
@@ -239,14 +200,14 @@ unpaired_unsafe g index known s =
 
 order_known : Unpaired second_first 1
 unfolding switches switched_to with_record passes_limit choice_at members_from is_found keep_op keep_end load finish delivers happens statement with_page with_asks with_lost digest_lng enough is_spent best digest_trim top_place plan_floor plan_end plan message on_answer is_loss decide change activate close draw look after_close is_ready is_ready_short on_reply on_retry appending activated store_decision on_store digest_decision on_digest_ask on_clean on_trim on_release read_answer summary_at apply op_length missing is_missing on_page on_tick same find_named put_named find put take_out keep keep_keys steps_of history_from unpacked packed
-order_known = (refl, refl, record { name = reader_r; told = (_, refl, 0, refl); of_log = (record { log = 1; from = 1; until = number }, refl, refl) })
+order_known = (refl, refl, record { name = reader_r; told = (_, refl, 0, refl); of_log = (record { log = 1; from = 1; until = number; messages = true }, refl, refl) })
 
 pub order_unsafe : Safe three_nodes (batch_run second_first) → ⊥
 order_unsafe = unpaired_unsafe second_first 1 order_known
 
 missing_known : Unpaired without_second 0
 unfolding switches switched_to with_record passes_limit choice_at members_from is_found keep_op keep_end load finish delivers happens statement with_page with_asks with_lost digest_lng enough is_spent best digest_trim top_place plan_floor plan_end plan message on_answer is_loss decide change activate close draw look after_close is_ready is_ready_short on_reply on_retry appending activated store_decision on_store digest_decision on_digest_ask on_clean on_trim on_release read_answer summary_at apply op_length missing is_missing on_page on_tick same find_named put_named find put take_out keep keep_keys steps_of history_from unpacked packed
-missing_known = (refl, refl, record { name = reader_r; told = (_, refl, 0, refl); of_log = (record { log = 1; from = 1; until = number }, refl, refl) })
+missing_known = (refl, refl, record { name = reader_r; told = (_, refl, 0, refl); of_log = (record { log = 1; from = 1; until = number; messages = true }, refl, refl) })
 
 pub missing_unsafe : Safe three_nodes (batch_run without_second) → ⊥
 missing_unsafe = unpaired_unsafe without_second 0 missing_known
@@ -256,7 +217,7 @@ missing_unsafe = unpaired_unsafe without_second 0 missing_known
 abbrev spaced : List Happened
 spaced = rewritten_run without_gap three_nodes one_append
 
-opened_here : opening three_nodes reader_r spaced ≡ Some (record { log = 1; from = 1; until = number })
+opened_here : opening three_nodes reader_r spaced ≡ Some (record { log = 1; from = 1; until = number; messages = false })
 unfolding switches switched_to with_record passes_limit choice_at members_from is_found keep_op keep_end load finish delivers happens statement with_page with_asks with_lost digest_lng enough is_spent best digest_trim top_place plan_floor plan_end plan message on_answer is_loss decide change activate close draw look after_close is_ready is_ready_short on_reply on_retry appending activated store_decision on_store digest_decision on_digest_ask on_clean on_trim on_release read_answer summary_at apply op_length missing is_missing on_page on_tick same find_named put_named find put take_out keep keep_keys steps_of history_from
 opened_here = refl
 
@@ -266,7 +227,7 @@ got_here = refl
 
 pub space_unsafe : Safe three_nodes spaced → ⊥
 space_unsafe s =
-    let tiled = subst (λ (is : List Interval). TilesFrom number 1 is) got_here (s.tiles reader_r (record { log = 1; from = 1; until = number }) opened_here) in
+    let tiled = subst (λ (is : List Interval). TilesFrom number 1 is) got_here (s.tiles reader_r (record { log = 1; from = 1; until = number; messages = false }) opened_here) in
     let first : number ≡ 1 = tiled.0 in
     omega (arith, first)
 

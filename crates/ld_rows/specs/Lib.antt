@@ -2,3 +2,5 @@ pub mod Schedules
 pub mod Texts
 pub mod Told
 pub mod Tampered
+pub mod ByHand
+pub mod Confirmed

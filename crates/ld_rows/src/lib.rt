@@ -11,4 +11,7 @@ pub use rows::{
     copies_are_lost, copies_are_rebuilt, made_schedules_are_known, one_record_is_read,
     records_are_trimmed, two_recoveries_agree,
 };
-pub use sanity::{a_false_run_is_not_safe, losses_are_told};
+pub use sanity::{
+    a_false_item_is_not_safe, a_false_number_is_not_safe, a_false_run_is_not_safe,
+    a_loss_is_confirmed, a_loss_is_confirmed_once, losses_are_told,
+};

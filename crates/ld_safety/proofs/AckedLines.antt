@@ -1,18 +1,17 @@
 -- A sequencer's acknowledged numbers were told so in lines: each number up to its last one such that it and all below are acknowledged, and each pending one that has enough copies.
-use Rattle.std.proofs.Common.{Bool, ◌≡◌, ◌∙◌, ◌≤◌, ◌<◌, ℕ, ◌+◌, inl, inr, refl, ap, sym, subst, true, nat_le, if◌then◌else◌, List, [], ◌∷◌, ◌++◌, length, Option, Some, None, arith}
+use Rattle.std.proofs.Common.{false, Bool, ◌≡◌, ◌∙◌, ◌≤◌, ◌<◌, ℕ, ◌+◌, inl, inr, refl, ap, sym, subst, true, nat_le, if◌then◌else◌, List, [], ◌∷◌, ◌++◌, length, Option, Some, None, arith}
 use Rattle.std.proofs.lemmas.Bool.{cases_Bool, cases_order, leb-true}
 use Rattle.ld_table.specs.Table.{find, put}
 use Rattle.ld_table.specs.Named.{find_named, put_named}
 use Rattle.ld_lsn.specs.Number.{numbered}
 use Rattle.ld_config.specs.declared.config.Config.{Config}
 use Rattle.ld_config.specs.Bounds.{IsInBounds}
-use Rattle.ld_schedule.specs.declared.event.Event.{Event}
 use Rattle.ld_transcript.specs.declared.line.Line.TheVariants as lines
 use Rattle.ld_msg.specs.declared.msg.Msg.{Msg}
 use Rattle.ld_msg.specs.declared.msg.Body.{Body}
 use Rattle.ld_msg.specs.declared.msg.Summary.{Summary}
 use Rattle.ld_msg.specs.Register.{Register, View, epochs_of, lce_of}
-use Rattle.ld_msg.specs.Sequencer.{Sequencer, Recovery, Append, Acts, Called, called, on_reply, on_retry, Numbered, appended, fresh_append, activated, next_esn, is_acked, acked_first, stored_at, with_append, raised, rose, released_of}
+use Rattle.ld_msg.specs.Sequencer.{Sequencer, Recovery, Append, Acts, Called, Numbered, appended, fresh_append, activated, next_esn, is_acked, acked_first, stored_at, with_append, raised, rose, released_of}
 use Rattle.ld_op.specs.declared.op.Op.{Op}
 use Rattle.ld_op.specs.Ticks.{Ticked, Cleans, Rebuilt, Asks, Nothing}
 use Rattle.ld_machine.specs.Config.{looks_at}
@@ -21,14 +20,14 @@ use Rattle.ld_machine.specs.State.{State, Done, finish, node_at, with_node, with
 use Rattle.ld_machine.specs.Facts.{Happened, OfLog}
 use Rattle.ld_machine.specs.World.{World, In}
 use Rattle.ld_machine.specs.Invariant.{Acked}
-use Rattle.ld_machine.specs.Run.{next_world}
+use Rattle.ld_machine.specs.Run.{after_step}
 use Rattle.ld_machine.specs.Step as Step
 use Rattle.ld_safety.proofs.Lists.{Some_inj, not_none, only, In-append, In_left, In_right, slice_get_last, slice_get-In}
 use Rattle.ld_safety.proofs.Members.{find_in, In_put}
 use Rattle.ld_safety.proofs.Names.{named_cases}
-use Rattle.ld_safety.proofs.Traces.{Keeps, happened, beside_kept}
+use Rattle.ld_safety.proofs.Traces.{Keeps, step_happened, beside_kept}
 use Rattle.ld_safety.proofs.Steps.{told, writes_before, finish_In}
-use Rattle.ld_safety.proofs.Events.{Cases, dispatch, Live, refreshed}
+use Rattle.ld_safety.proofs.Events.{reply_call, retry_call, announced, Cases, dispatch, Live, refreshed}
 use Rattle.ld_safety.proofs.SequencerSteps.{Acting, Retrying, Closing, gone_of, replied, retried}
 use Rattle.ld_safety.proofs.Appends.{RowOf, put_in_row}
 use Rattle.ld_safety.proofs.Acks.{acked_in_row, unacked_in, raised_in}
@@ -38,16 +37,17 @@ use Rattle.ld_safety.proofs.GivenSteps.{BaseGiven}
 use Rattle.ld_safety.proofs.Along.{Along}
 use Rattle.ld_safety.proofs.AlongSteps.{along_kept}
 use Rattle.ld_safety.proofs.Specs.{SpecFine, SetsFine, start_fine, fixed_fine, fine_step}
+use Rattle.ld_machine.specs.Calm.{Move}
 
 pub record LinesFine (hs : List Happened) (q : Sequencer) : Type 0 where
   pub appends : (p : ℕ × Append) → In p q.appends → is_acked q.spec p.1 ≡ true → Acked hs q.log p.0
   pub acked : (k : ℕ) → 0 < k → k ≤ q.lng → Acked hs q.log (numbered q.epoch k)
 
 -- longer runs
-pub acked_grows : (hs : List Happened) (old : Register) (e : Event) (d : Done) (l n : ℕ) → Acked hs l n → Acked (hs ++ told old e d ∷ []) l n
+pub acked_grows : (hs : List Happened) (old : Register) (e : Move) (d : Done) (l n : ℕ) → Acked hs l n → Acked (hs ++ told old e d ∷ []) l n
 acked_grows hs old e d l n a = (a.0, record { name = a.1.name; told = writes_before hs (told old e d ∷ []) a.0 _ a.1.told; of_log = of_log_grows hs old e d l a.1.name a.1.of_log })
 
-lines_grow : (hs : List Happened) (old : Register) (e : Event) (d : Done) (q : Sequencer) → LinesFine hs q → LinesFine (hs ++ told old e d ∷ []) q
+lines_grow : (hs : List Happened) (old : Register) (e : Move) (d : Done) (q : Sequencer) → LinesFine hs q → LinesFine (hs ++ told old e d ∷ []) q
 lines_grow hs old e d q F = record { appends = λ p i t. acked_grows hs old e d q.log p.0 (F.appends p i t); acked = λ k a b. acked_grows hs old e d q.log (numbered q.epoch k) (F.acked k a b) }
 
 -- ---- a call ----
@@ -152,7 +152,7 @@ in_acted : (name : List ℕ) (old : Sequencer) (a : Acts) (n : ℕ) → In n a.a
 in_acted name old a n i = In_right _ (Step.numbered_lines (lines.RefusedPreempted name) a.preempts) _ (In_right _ (Step.when a.failed (lines.RefusedRegister name)) _
     (In_left _ (Step.numbered_lines (lines.Acked name) a.acked) (Step.numbered_lines (lines.Clean name) a.closed ++ Step.when (rose old a.sequencer) (lines.Released name (released_of a.sequencer))) (in_numbered name n a.acked i)))
 
-module _ (c : Config) (hs : List Happened) (s : State) (e : Event) (D : (t : List ℕ) (q : Sequencer) → find_named t s.sequencers ≡ Some q → LinesFine hs q) (known : (t : List ℕ) (q : Sequencer) → find_named t s.sequencers ≡ Some q → OfLog hs q.log t)
+module _ (c : Config) (hs : List Happened) (s : State) (e : Move) (D : (t : List ℕ) (q : Sequencer) → find_named t s.sequencers ≡ Some q → LinesFine hs q) (known : (t : List ℕ) (q : Sequencer) → find_named t s.sequencers ≡ Some q → OfLog hs q.log t)
     (rows : (t : List ℕ) (q : Sequencer) → find_named t s.sequencers ≡ Some q → RowOf q) (fine : (t : List ℕ) (q : Sequencer) → find_named t s.sequencers ≡ Some q → SpecFine q.spec) where
   Result : Done → Type 0
   Result d = (t : List ℕ) (v : Sequencer) → find_named t d.state.sequencers ≡ Some v → LinesFine (hs ++ told s.register e d ∷ []) v
@@ -171,8 +171,8 @@ module _ (c : Config) (hs : List Happened) (s : State) (e : Event) (D : (t : Lis
   told_acked : (d : Done) (name : List ℕ) (q : Sequencer) (n : ℕ) → find_named name s.sequencers ≡ Some q → In (lines.Acked name n) d.lines → Acked (hs ++ told s.register e d ∷ []) q.log n
   told_acked d name q n f i = let y = slice_get-In _ _ (finish_In d _ i) in (length hs, record { name = name; told = (told s.register e d, slice_get_last (told s.register e d) hs [], y.0, y.1); of_log = of_log_grows hs s.register e d q.log name (known name q f) })
 
-  acted : (f : List ℕ) (name : List ℕ) (q : Sequencer) (a : Acts) → find_named name s.sequencers ≡ Some q → ((gs : List Happened) (F : LinesFine gs q) → CallFine c gs q F (called (looks_at c s.register q.log) s.register a a.tries)) → Result (Step.acted c (refreshed s f) name q a)
-  acted f name q a g h = let d : Done = Step.acted c (refreshed s f) name q a in let k = called (looks_at c s.register q.log) s.register a a.tries in
+  acted : (again : Bool) (f : List ℕ) (name : List ℕ) (q : Sequencer) (call : Called) → find_named name s.sequencers ≡ Some q → ((gs : List Happened) (F : LinesFine gs q) → CallFine c gs q F call) → Result (Step.told (refreshed s f) name q (announced again call))
+  acted again f name q call g h = let d : Done = Step.told (refreshed s f) name q (announced again call) in let k : Called = call in
       puts d name k.acts.sequencer refl ((h (hs ++ told s.register e d ∷ []) (lines_grow hs s.register e d q (D name q g))).fine (λ n i. told_acked d name q n g (in_acted name q k.acts n i)))
 
   appends_on : (name : List ℕ) (q : Sequencer) (payload : List ℕ) → Live s name q → Result (Step.append_done s name q payload Numbered)
@@ -201,9 +201,9 @@ module _ (c : Config) (hs : List Happened) (s : State) (e : Event) (D : (t : Lis
 
   line_cases : Cases c s e (λ d m. Result d)
   line_cases = record {
-    still = λ f i. stays _ refl;
+    still = λ f older i. stays _ refl;
     says = λ x q. stays _ refl;
-    node_hears = λ f n m i t v o. handled f (Step.releases (node_at s n) m.log m.body) n m (Step.node_handles n (node_at s n) m).op (Step.node_handles n (node_at s n) m).answer;
+    node_hears = λ f older n m i t v o. handled f (Step.releases (node_at s n) m.log m.body) n m (Step.node_handles n (node_at s n) m).op (Step.node_handles n (node_at s n) m).answer;
     loads = λ n ls q a o. stays _ refl;
     draw_fails = λ n a. stays _ refl;
     formats = λ n k g a v i. stays _ refl;
@@ -213,15 +213,15 @@ module _ (c : Config) (hs : List Happened) (s : State) (e : Event) (D : (t : Lis
     faults = λ n f o. stays _ refl;
     sets = λ l r x set h. stays _ refl;
     arms = λ k done o. stays _ refl;
-    hears = λ f name q m i t l v o. acted f name q (on_reply (looks_at c s.register q.log) q (Step.sender_node m.from) m.body) v.named (λ gs F. replied c s name q v.there (Step.sender_node m.from) m.body (λ k n. CallFine c gs q F k) (acting_lines c gs q F s.register (gone_of s q) (Step.sender_node m.from) m.body (rows name q v.named)));
-    retries = λ name q v o. acted s.network.fresh name q (on_retry (looks_at c s.register q.log) q) v.named (λ gs F. retried c s q v.there (λ k n. CallFine c gs q F k) (retrying_lines c gs q F s.register (gone_of s q)));
+    hears = λ f older name q m i t l v o. acted false f name q (reply_call c s q (Step.sender_node m.from) m.body) v.named (λ gs F. replied c s name q v.there (Step.sender_node m.from) m.body (λ k n. CallFine c gs q F k) (acting_lines c gs q F s.register (gone_of s q) (Step.sender_node m.from) m.body (rows name q v.named)));
+    retries = λ again name q v o. acted again s.network.fresh name q (retry_call c s q) v.named (λ gs F. retried c s q v.there (λ k n. CallFine c gs q F k) (retrying_lines c gs q F s.register (gone_of s q)));
     appends = λ name q p v a i. appends_on name q p v;
     trims = λ name q t v a. stays _ refl;
     drops = λ name q v o. puts (only_state (with_sequencer s name (Step.dropped q))) name (Step.dropped q) refl (let F = lines_grow hs s.register e (only_state (with_sequencer s name (Step.dropped q))) q (D name q v.named) in record { appends = F.appends; acked = F.acked });
     activates = λ name l k g n i x. activates_on name l k;
     swaps = λ n m l x r q i. stays _ refl;
     activate_fails = λ name l x g q. stays _ refl;
-    answers = λ f name d m i t v o. stays _ refl;
+    answers = λ f older name d m i t v o. stays _ refl;
     polls = λ name d v o. stays _ refl;
     opens = λ style name l from until o x. stays _ refl;
   }
@@ -230,7 +230,7 @@ module _ (c : Config) (hs : List Happened) (s : State) (e : Event) (D : (t : Lis
 abbrev pub AllLines : List Happened → World → Type 0
 AllLines hs w = (t : List ℕ) (q : Sequencer) → find_named t w.state.sequencers ≡ Some q → LinesFine hs q
 
-pub lines_step : (c : Config) → IsInBounds c → (hs : List Happened) (w : World) (e : Event) → BaseGiven c hs w × Along c hs w → SetsFine w.state → AllLines hs w → AllLines (hs ++ happened c w.state e ∷ []) (next_world c w e)
+pub lines_step : (c : Config) → IsInBounds c → (hs : List Happened) (w : World) (e : Move) → BaseGiven c hs w × Along c hs w → SetsFine w.state → AllLines hs w → AllLines (hs ++ step_happened c w.state e ∷ []) (after_step c w e)
 unfolding finish Result
 lines_step c b hs w e B A D = dispatch c w.state e (λ d m. Result c hs w.state e D known rows fine d) B.0.0.0.0 (line_cases c hs w.state e D known rows fine) where
   known : (t : List ℕ) (q : Sequencer) → find_named t w.state.sequencers ≡ Some q → OfLog hs q.log t

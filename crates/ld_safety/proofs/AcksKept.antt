@@ -1,12 +1,11 @@
 -- Each event leaves sequencers that acknowledged only what was stored by enough nodes.
-use Rattle.std.proofs.Common.{Bool, ◌≡◌, ◌∙◌, ◌≤◌, ℕ, ◌+◌, inl, inr, refl, ap, sym, subst, true, if◌then◌else◌, List, [], ◌∷◌, Option, Some, None, arith, ◌<◌}
+use Rattle.std.proofs.Common.{false, Bool, ◌≡◌, ◌∙◌, ◌≤◌, ℕ, ◌+◌, inl, inr, refl, ap, sym, subst, true, if◌then◌else◌, List, [], ◌∷◌, Option, Some, None, arith, ◌<◌}
 use Rattle.ld_safety.proofs.Protocol.{tells_stored}
 use Rattle.ld_ids.specs.Choice.{nodes_of}
 use Rattle.ld_table.specs.Table.{find}
 use Rattle.ld_table.specs.Named.{find_named, put_named}
 use Rattle.ld_lsn.specs.Number.{epoch_of, numbered, home_epoch, last_esn}
 use Rattle.ld_config.specs.declared.config.Config.{Config}
-use Rattle.ld_schedule.specs.declared.event.Event.{Event}
 use Rattle.ld_transcript.specs.declared.line.Line.TheVariants as lines
 use Rattle.ld_msg.specs.declared.msg.Summary.{Summary}
 use Rattle.ld_msg.specs.declared.msg.Msg.{Msg}
@@ -25,7 +24,7 @@ use Rattle.ld_machine.specs.World.{Made, In}
 use Rattle.ld_machine.specs.Step as Step
 use Rattle.ld_safety.proofs.Lists.{Some_inj, not_none, In-append, only, cond_both}
 use Rattle.ld_safety.proofs.Names.{named_cases}
-use Rattle.ld_safety.proofs.Events.{Cases, Live, refreshed}
+use Rattle.ld_safety.proofs.Events.{reply_call, retry_call, announced, Cases, Live, refreshed}
 use Rattle.ld_safety.proofs.SequencerSteps.{Closing, Acting, Retrying, gone_of, replied, retried}
 use Rattle.ld_safety.proofs.RegisterSteps.{activated_epochs, close_granted, epochs_put, epochs_same}
 use Rattle.ld_safety.proofs.Registers.{Up, Reached, look_closed, activated_spec}
@@ -35,6 +34,8 @@ use Rattle.ld_safety.proofs.Votes.{nobody, in_of}
 use Rattle.ld_safety.proofs.Settled.{Acknowledged, Stays}
 use Rattle.ld_safety.proofs.DigestKept.{acked_stays}
 use Rattle.ld_safety.proofs.Acks.{AppendFine, AcksFine, acks_fine, acks_now, raised_fine, acks_later}
+use Rattle.ld_machine.specs.Calm as Calm
+use Rattle.ld_machine.specs.Calm.{Move, event_of}
 
 module _ (c : Config) (hs : List Happened) (sent : List Msg) where
   -- ---- a call ----
@@ -103,16 +104,16 @@ module _ (c : Config) (hs : List Happened) (sent : List Msg) where
         up = record { reached = A.reached; spec = A.spec; kept = A.kept; appends = raised_fine c hs sent r q A; acked = A.acked; closed = A.closed }
 
 -- ---- every event ----
-module _ (c : Config) (s : State) (e : Event) (hs : List Happened) (D : (t : List ℕ) (v : Sequencer) → find_named t s.sequencers ≡ Some v → AcksFine c hs s.network.sent s.register v)
+module _ (c : Config) (s : State) (e : Move) (hs : List Happened) (D : (t : List ℕ) (v : Sequencer) → find_named t s.sequencers ≡ Some v → AcksFine c hs s.network.sent s.register v)
     (rows : (t : List ℕ) (v : Sequencer) → find_named t s.sequencers ≡ Some v → RowOf v)
     (stored : (name : List ℕ) (q : Sequencer) → Live s name q → (m : Msg) → In m s.network.sent → m.to ≡ whos.Sequencer q.epoch → m.log ≡ q.log → (n : ℕ) → m.body ≡ bodies.Stored n → tells_stored s.network.sent q.log n q.epoch (Step.sender_node m.from) ≡ true)
     (cleaned : (name : List ℕ) (q : Sequencer) → Live s name q → (m : Msg) → In m s.network.sent → m.log ≡ q.log → (n : ℕ) (y : Summary) → m.body ≡ bodies.CleanHere n y → home_epoch n ≤ lce_of s.register q.log)
-    (numbers : (name : List ℕ) (q : Sequencer) (payload : List ℕ) → Live s name q → appending q payload ≡ Numbered → AsksToAppend name payload e → In (lines.Appended name (numbered q.epoch (next_esn q))) (Step.happens c s e).lines → (next_esn q < last_esn) × AppendedBy hs q.log (numbered q.epoch (next_esn q)) payload) where
+    (numbers : (name : List ℕ) (q : Sequencer) (payload : List ℕ) → Live s name q → appending q payload ≡ Numbered → AsksToAppend name payload (event_of e) → In (lines.Appended name (numbered q.epoch (next_esn q))) (Calm.moves c s e).lines → (next_esn q < last_esn) × AppendedBy hs q.log (numbered q.epoch (next_esn q)) payload) where
   SameLog : List ℕ → Sequencer → Type 0
   SameLog t v = (q : Sequencer) → find_named t s.sequencers ≡ Some q → v.log ≡ q.log
 
   abbrev pub Result : Done → List Made → Type 0
-  Result d m = Step.happens c s e ≡ d → Up s.register d.state.register → Stays c s.register d.state.register → (t : List ℕ) (v : Sequencer) → find_named t d.state.sequencers ≡ Some v → AcksFine c hs s.network.sent d.state.register v × ((q : Sequencer) → find_named t s.sequencers ≡ Some q → v.log ≡ q.log)
+  Result d m = Calm.moves c s e ≡ d → Up s.register d.state.register → Stays c s.register d.state.register → (t : List ℕ) (v : Sequencer) → find_named t d.state.sequencers ≡ Some v → AcksFine c hs s.network.sent d.state.register v × ((q : Sequencer) → find_named t s.sequencers ≡ Some q → v.log ≡ q.log)
 
   same_one : (t : List ℕ) (v : Sequencer) → find_named t s.sequencers ≡ Some v → SameLog t v
   unfolding SameLog
@@ -138,11 +139,11 @@ module _ (c : Config) (s : State) (e : Event) (hs : List Happened) (D : (t : Lis
   pub retry_acts : (name : List ℕ) (q : Sequencer) → Live s name q → ActsFine c hs s.network.sent s.register q (called (looks_at c s.register q.log) s.register (on_retry (looks_at c s.register q.log) q) (on_retry (looks_at c s.register q.log) q).tries)
   retry_acts name q v = retried c s q v.there (λ k m. ActsFine c hs s.network.sent s.register q k) (retrying_acks c hs s.network.sent s.register q (D name q v.named) (gone_of s q))
 
-  called_result : (f : List ℕ) (name : List ℕ) (q : Sequencer) (a : Acts) (m : List Made) → Live s name q → ActsFine c hs s.network.sent s.register q (called (looks_at c s.register q.log) s.register a a.tries) → Result (Step.acted c (refreshed s f) name q a) m
+  called_result : (again : Bool) (f : List ℕ) (name : List ℕ) (q : Sequencer) (call : Called) (m : List Made) → Live s name q → ActsFine c hs s.network.sent s.register q call → Result (Step.told (refreshed s f) name q (announced again call)) m
   unfolding SameLog
-  called_result f name q a m v A = puts (Step.acted c (refreshed s f) name q a) name (called (looks_at c s.register q.log) s.register a a.tries).acts.sequencer refl A.fine (λ p g. A.log ∙ ap (λ (x : Sequencer). x.log) (Some_inj (sym v.named ∙ g)))
+  called_result again f name q call m v A = puts (Step.told (refreshed s f) name q (announced again call)) name call.acts.sequencer refl A.fine (λ p g. A.log ∙ ap (λ (x : Sequencer). x.log) (Some_inj (sym v.named ∙ g)))
 
-  append_result : (name : List ℕ) (q : Sequencer) (payload : List ℕ) → Live s name q → appending q payload ≡ Numbered → AsksToAppend name payload e → Result (Step.append_done s name q payload Numbered) []
+  append_result : (name : List ℕ) (q : Sequencer) (payload : List ℕ) → Live s name q → appending q payload ≡ Numbered → AsksToAppend name payload (event_of e) → Result (Step.append_done s name q payload Numbered) []
   unfolding SameLog
   append_result name q payload v a i w = puts (Step.append_done s name q payload Numbered) name (appended q payload) refl (λ u w. record { reached = A.reached; spec = A.spec; kept = A.kept; appends = λ p j. elim (In-append p q.appends _ j) [ inl k ↦ A.appends p k | inr k ↦ subst (AppendFine c hs s.network.sent q.spec q.log q.epoch) (sym (only p (numbered q.epoch (next_esn q), fresh_append payload) k)) fresh ]; acked = A.acked; closed = A.closed })
       (λ p g. ap (λ (x : Sequencer). x.log) (Some_inj (sym v.named ∙ g))) w where
@@ -175,9 +176,9 @@ module _ (c : Config) (s : State) (e : Event) (hs : List Happened) (D : (t : Lis
   pub acks_cases : Cases c s e Result
   unfolding SameLog
   acks_cases = record {
-    still = λ f i. stays _ refl;
+    still = λ f older i. stays _ refl;
     says = λ x q. stays _ refl;
-    node_hears = λ f n m i t v o. handled f (Step.releases (node_at s n) m.log m.body) n m (Step.node_handles n (node_at s n) m).op (Step.node_handles n (node_at s n) m).answer;
+    node_hears = λ f older n m i t v o. handled f (Step.releases (node_at s n) m.log m.body) n m (Step.node_handles n (node_at s n) m).op (Step.node_handles n (node_at s n) m).answer;
     loads = λ n ls q b o. stays _ refl;
     draw_fails = λ n b. stays _ refl;
     formats = λ n k g b v i. stays _ refl;
@@ -187,15 +188,15 @@ module _ (c : Config) (s : State) (e : Event) (hs : List Happened) (D : (t : Lis
     faults = λ n f o. stays _ refl;
     sets = λ l r x set h. stays _ refl;
     arms = λ k done o. stays _ refl;
-    hears = λ f name q m i t l v o. called_result f name q (on_reply (looks_at c s.register q.log) q (Step.sender_node m.from) m.body) [] v (heard_acts name q v m i t l);
-    retries = λ name q v o. called_result s.network.fresh name q (on_retry (looks_at c s.register q.log) q) [] v (retry_acts name q v);
+    hears = λ f older name q m i t l v o. called_result false f name q (reply_call c s q (Step.sender_node m.from) m.body) [] v (heard_acts name q v m i t l);
+    retries = λ again name q v o. called_result again s.network.fresh name q (retry_call c s q) [] v (retry_acts name q v);
     appends = λ name q p v a i. append_result name q p v a i;
     trims = λ name q t v b. stays _ refl;
     drops = λ name q v o. puts (only_state (with_sequencer s name (Step.dropped q))) name (Step.dropped q) refl (λ u w. let A = D name q v.named in record { reached = A.reached; spec = A.spec; kept = A.kept; appends = A.appends; acked = A.acked; closed = A.closed }) (λ p g. ap (λ (x : Sequencer). x.log) (Some_inj (sym v.named ∙ g)));
     activates = λ name l k g n i x. activate_result name l k g n i;
     swaps = λ n m l x r q i. stays _ refl;
     activate_fails = λ name l x g q. stays _ refl;
-    answers = λ f name d m i t v o. stays _ refl;
+    answers = λ f older name d m i t v o. stays _ refl;
     polls = λ name d v o. stays _ refl;
     opens = λ style name l from until o x. stays _ refl;
   }

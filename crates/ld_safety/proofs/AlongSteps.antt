@@ -29,7 +29,6 @@ use Rattle.ld_table.specs.Table.{find}
 use Rattle.ld_table.specs.Named.{find_named}
 use Rattle.ld_lsn.specs.Number.{epoch_of, home_epoch, home_esn, numbered, last_esn}
 use Rattle.ld_config.specs.declared.config.Config.{Config}
-use Rattle.ld_schedule.specs.declared.event.Event.{Event}
 use Rattle.ld_msg.specs.declared.msg.What.{What}
 use Rattle.ld_msg.specs.declared.msg.Entry.{Entry}
 use Rattle.ld_msg.specs.declared.msg.Msg.{Msg}
@@ -40,7 +39,7 @@ use Rattle.ld_machine.specs.Disk.{Cut, load}
 use Rattle.ld_machine.specs.State.{Done, finish, node_at}
 use Rattle.ld_machine.specs.Facts.{Happened, AsksToAppend}
 use Rattle.ld_machine.specs.World.{World, Made, Joined, In, from_node, joined_on, MayHold, made_on, gone_nodes, is_gone, is_cut_gone}
-use Rattle.ld_machine.specs.Run.{next_world}
+use Rattle.ld_machine.specs.Run.{after_step}
 use Rattle.ld_machine.specs.Step as Step
 use Rattle.ld_safety.proofs.Lists.{not_none, In-append, In_right, Some_inj, cond_both, not_both}
 use Rattle.ld_safety.proofs.Losses.{with_one_in}
@@ -54,7 +53,7 @@ use Rattle.ld_safety.proofs.LostSaid as lost
 use Rattle.ld_safety.proofs.LossBook.{LossKept, loss_made, loss_step, found_below}
 use Rattle.ld_table.specs.Words.{is_in, with_one}
 use Rattle.std.proofs.lemmas.Bool.{cases_Bool, cases_lt, cases_order, and_from, not-false, or_cases, eqb-true}
-use Rattle.ld_safety.proofs.Traces.{Keeps, beside_kept, happened}
+use Rattle.ld_safety.proofs.Traces.{Keeps, beside_kept, step_happened}
 use Rattle.ld_safety.proofs.Steps.{sent_by}
 use Rattle.ld_safety.proofs.Events.{dispatch, Live}
 use Rattle.ld_safety.proofs.RegisterSteps.{draw_leaves}
@@ -96,20 +95,22 @@ use Rattle.ld_transcript.specs.declared.line.Line.TheVariants as lines
 use Rattle.ld_safety.proofs.Along.{Along, LastPlan, ClosedHow, closed_last, start_along, PlainSaid, BodySaidIn, zero_release}
 use Rattle.ld_safety.proofs.Withheld.{told_entry}
 use Rattle.ld_safety.proofs.Carried.{message_whole}
+use Rattle.ld_machine.specs.Calm as Calm
+use Rattle.ld_machine.specs.Calm.{Move, event_of}
 
 -- ---- every step ----
-module _ (c : Config) (hs : List Happened) (w : World) (e : Event) (B : Base c hs w) (G : Given c hs w.state) (R : Along c hs w) where
+module _ (c : Config) (hs : List Happened) (w : World) (e : Move) (B : Base c hs w) (G : Given c hs w.state) (R : Along c hs w) where
   d : Done
-  d = Step.happens c w.state e
+  d = Calm.moves c w.state e
 
   r : Register
   r = w.state.register
 
-  pub follow : Up w.state.register (Step.happens c w.state e).state.register × OnlyClosed (Step.happens c w.state e).state.register
+  pub follow : Up w.state.register (Calm.moves c w.state e).state.register × OnlyClosed (Calm.moves c w.state e).state.register
   follow = follows c w.state e B.0.0 B.1.0
 
-  pub stays : Stays c w.state.register (Step.happens c w.state e).state.register
-  stays = record { summaries = summaries_stay c w.state e B.0.0 B.1.0; specs = spec_stays c w.state.register (Step.happens c w.state e).state.register follow.0 (specs_stay c w.state e B.0.0) }
+  pub stays : Stays c w.state.register (Calm.moves c w.state e).state.register
+  stays = record { summaries = summaries_stay c w.state e B.0.0 B.1.0; specs = spec_stays c w.state.register (Calm.moves c w.state e).state.register follow.0 (specs_stay c w.state e B.0.0) }
 
   pub settlers : SettlersOf c w.state.register w.state.network.sent
   settlers l y b n x (inl q) i = R.stored_of l y n b (subst (λ z. In (from_node l y b z) w.state.network.sent) q i)
@@ -123,86 +124,86 @@ module _ (c : Config) (hs : List Happened) (w : World) (e : Event) (B : Base c h
     reached : (l x : ℕ) → Reached w.state.register l x → Reached k l x
     reached l x h = (h.0, let z : (epochs_of k l).epoch ≡ (epochs_of w.state.register l).epoch = ap (λ m. (unwrap_or (find l m) no_epochs).epoch) logs in let y = h.1 in omega arith)
 
-  ups_now : (y : ℕ) → UpFine (node_at (Step.happens c w.state e).state y)
+  ups_now : (y : ℕ) → UpFine (node_at (Calm.moves c w.state e).state y)
   ups_now = dispatch c w.state e (λ d m. (y : ℕ) → UpFine (node_at d.state y)) B.0.0 (node_cases c w.state e (λ y x. UpFine x) (ups_keep c w.state e R.ups))
 
-  holds_now : (y : ℕ) → NodeHolds w.made w.state.network.sent y (node_at (Step.happens c w.state e).state y)
+  holds_now : (y : ℕ) → NodeHolds w.made w.state.network.sent y (node_at (Calm.moves c w.state e).state y)
   holds_now = dispatch c w.state e (λ d m. (y : ℕ) → NodeHolds w.made w.state.network.sent y (node_at d.state y)) B.0.0
       (node_cases c w.state e (NodeHolds w.made w.state.network.sent) (holds_keep c w.state e hs w.made w.state.register R.said R.holds drawn_known))
 
-  pub sends_now : SendsFine (Step.happens c w.state e).state (Step.happens c w.state e).sends
+  pub sends_now : SendsFine (Calm.moves c w.state e).state (Calm.moves c w.state e).sends
   sends_now = dispatch c w.state e (λ d m. SendsFine d.state d.sends) B.0.0 (sends_cases c w.state e hs w.made w.state.register R.said R.holds R.ups)
 
-  pub same_sent : (Step.happens c w.state e).state.network.sent ≡ w.state.network.sent
+  pub same_sent : (Calm.moves c w.state e).state.network.sent ≡ w.state.network.sent
   same_sent = network_same c w.state e B.0.0
 
-  pub digests_now : Result c w.state e hs w.made R.said B.0.1.epochs R.shows R.bounded R.below R.recoveries R.stored_from R.each settlers (Step.happens c w.state e) (made_on c w.state e)
+  pub digests_now : Result c w.state e hs w.made R.said B.0.1.epochs R.shows R.bounded R.below R.recoveries R.stored_from R.each settlers (Calm.moves c w.state e) (made_on c w.state (event_of e))
   digests_now = dispatch c w.state e (Result c w.state e hs w.made R.said B.0.1.epochs R.shows R.bounded R.below R.recoveries R.stored_from R.each settlers) B.0.0 (digest_cases c w.state e hs w.made R.said B.0.1.epochs R.shows R.bounded R.below R.recoveries R.stored_from R.each settlers)
 
   abbrev after_sent : List Msg
-  after_sent = (finish (Step.happens c w.state e)).state.network.sent
+  after_sent = (finish (Calm.moves c w.state e)).state.network.sent
 
   abbrev reg : Register
-  reg = (Step.happens c w.state e).state.register
+  reg = (Calm.moves c w.state e).state.register
 
   abbrev all_made : List Made
-  all_made = made_on c w.state e ++ w.made
+  all_made = made_on c w.state (event_of e) ++ w.made
 
   abbrev next : List Happened
-  next = hs ++ happened c w.state e ∷ []
+  next = hs ++ step_happened c w.state e ∷ []
 
   shows_next : ShowsAll all_made after_sent
   shows_next l y b from upto t lng es n a i j q lo hi lt =
-      kept_next l b t es n a (shows_sent w.made w.state.network.sent (Step.happens c w.state e) sends_now same_sent holds_now R.shows l y b from upto t lng es n a i j q lo hi lt) where
+      kept_next l b t es n a (shows_sent w.made w.state.network.sent (Calm.moves c w.state e) sends_now same_sent holds_now R.shows l y b from upto t lng es n a i j q lo hi lt) where
         kept_next : (l b t : ℕ) (es : List Entry) (n a : ℕ) → Kept w.made l (b + 1) t es n a → Kept all_made l (b + 1) t es n a
         kept_next l b t es n a (inl h) = inl h
         kept_next l b t es n a (inr (inl h)) = inr (inl h)
-        kept_next l b t es n a (inr (inr h)) = inr (inr (ends_later w.made (made_on c w.state e) w.state.network.sent l a (b + 1) n h))
+        kept_next l b t es n a (inr (inr h)) = inr (inr (ends_later w.made (made_on c w.state (event_of e)) w.state.network.sent l a (b + 1) n h))
 
   bounded_next : PagesBounded after_sent
-  bounded_next l y b from upto t lng es f i j = bounded_sent w.made w.state.network.sent (Step.happens c w.state e) sends_now same_sent holds_now R.bounded l y b from upto t lng es f i j
+  bounded_next l y b from upto t lng es f i j = bounded_sent w.made w.state.network.sent (Calm.moves c w.state e) sends_now same_sent holds_now R.bounded l y b from upto t lng es f i j
 
-  pub new_plan : (l x b : ℕ) (f : Basis) → In (plan_of l x b f) (made_on c w.state e) → NewPlan c hs w.state.network.sent (gone_nodes w.state) w.made w.state.register l x b f × (b ≤ (epochs_of w.state.register l).epoch)
+  pub new_plan : (l x b : ℕ) (f : Basis) → In (plan_of l x b f) (made_on c w.state (event_of e)) → NewPlan c hs w.state.network.sent (gone_nodes w.state) w.made w.state.register l x b f × (b ≤ (epochs_of w.state.register l).epoch)
   new_plan = (digests_now follow.0 stays).1
 
   grows_now : (l b n : ℕ) (x : What) → Says hs w.made l b n x → Says next all_made l b n x
-  grows_now l b n x h = says_grows hs w.state.register e (Step.happens c w.state e) w.made (made_on c w.state e) l b n x h
+  grows_now l b n x h = says_grows hs w.state.register e (Calm.moves c w.state e) w.made (made_on c w.state (event_of e)) l b n x h
 
   plan_next : (l x b : ℕ) (f : Basis) → PlanMade c hs w.state.network.sent w.made w.state.register l x b f → PlanMade c next after_sent all_made reg l x b f
-  plan_next l x b f p = plan_later c hs next w.made (made_on c w.state e) after_sent w.state.register reg follow.0 stays grows_now l x b f
-      (plan_sent c hs w.made w.state.network.sent w.state.register (Step.happens c w.state e) sends_now same_sent holds_now l x b f p)
+  plan_next l x b f p = plan_later c hs next w.made (made_on c w.state (event_of e)) after_sent w.state.register reg follow.0 stays grows_now l x b f
+      (plan_sent c hs w.made w.state.network.sent w.state.register (Calm.moves c w.state e) sends_now same_sent holds_now l x b f p)
 
   once_next : PlansOnce all_made
-  once_next l x b f g i j = elim (In-append _ (made_on c w.state e) w.made i) [
-    | inl a ↦ elim (In-append _ (made_on c w.state e) w.made j) [
+  once_next l x b f g i j = elim (In-append _ (made_on c w.state (event_of e)) w.made i) [
+    | inl a ↦ elim (In-append _ (made_on c w.state (event_of e)) w.made j) [
       | inl z ↦ (digests_now follow.0 stays).2 l x b f g a z
       | inr z ↦ absurd ((new_plan l x b f a).0.first g z)
     ]
-    | inr a ↦ elim (In-append _ (made_on c w.state e) w.made j) [
+    | inr a ↦ elim (In-append _ (made_on c w.state (event_of e)) w.made j) [
       | inl z ↦ absurd ((new_plan l x b g z).0.first f a)
       | inr z ↦ R.once l x b f g a z
     ]
   ]
 
   -- ---- what stays ----
-  pub into_after : (m : Msg) → In m w.state.network.sent → In m (finish (Step.happens c w.state e)).state.network.sent
-  into_after = into c hs w.made w.state.network.sent w.state.register (Step.happens c w.state e) sends_now same_sent holds_now
+  pub into_after : (m : Msg) → In m w.state.network.sent → In m (finish (Calm.moves c w.state e)).state.network.sent
+  into_after = into c hs w.made w.state.network.sent w.state.register (Calm.moves c w.state e) sends_now same_sent holds_now
 
-  acks_next : (k : Register) (l n : ℕ) → Acknowledged c hs w.state.network.sent k l n → Acknowledged c (hs ++ happened c w.state e ∷ []) w.state.network.sent k l n
-  acks_next k l n h = record { reached = h.reached; above = h.above; below = h.below; payload = h.payload; appended = (h.appended.0, appends_grows hs w.state.register e (Step.happens c w.state e) l n h.appended.0 h.payload h.appended.1); chosen = h.chosen }
+  acks_next : (k : Register) (l n : ℕ) → Acknowledged c hs w.state.network.sent k l n → Acknowledged c (hs ++ step_happened c w.state e ∷ []) w.state.network.sent k l n
+  acks_next k l n h = record { reached = h.reached; above = h.above; below = h.below; payload = h.payload; appended = (h.appended.0, appends_grows hs w.state.register e (Calm.moves c w.state e) l n h.appended.0 h.payload h.appended.1); chosen = h.chosen }
 
-  acks_sent : (l n : ℕ) → Acknowledged c (hs ++ happened c w.state e ∷ []) w.state.network.sent reg l n → Acknowledged c (hs ++ happened c w.state e ∷ []) (finish (Step.happens c w.state e)).state.network.sent reg l n
-  acks_sent l n h = record { reached = h.reached; above = h.above; below = h.below; payload = h.payload; appended = h.appended; chosen = chosen_more (fixed_of c reg l (epoch_of n)) w.state.network.sent (finish (Step.happens c w.state e)).state.network.sent into_after l n (epoch_of n) h.chosen }
+  acks_sent : (l n : ℕ) → Acknowledged c (hs ++ step_happened c w.state e ∷ []) w.state.network.sent reg l n → Acknowledged c (hs ++ step_happened c w.state e ∷ []) (finish (Calm.moves c w.state e)).state.network.sent reg l n
+  acks_sent l n h = record { reached = h.reached; above = h.above; below = h.below; payload = h.payload; appended = h.appended; chosen = chosen_more (fixed_of c reg l (epoch_of n)) w.state.network.sent (finish (Calm.moves c w.state e)).state.network.sent into_after l n (epoch_of n) h.chosen }
 
-  pub acks_after : (l n : ℕ) → Acknowledged c (hs ++ happened c w.state e ∷ []) w.state.network.sent w.state.register l n → Acknowledged c (hs ++ happened c w.state e ∷ []) (finish (Step.happens c w.state e)).state.network.sent (Step.happens c w.state e).state.register l n
-  acks_after l n h = acks_sent l n (acked_stays c (hs ++ happened c w.state e ∷ []) w.state.network.sent w.state.register reg follow.0 stays l n h)
+  pub acks_after : (l n : ℕ) → Acknowledged c (hs ++ step_happened c w.state e ∷ []) w.state.network.sent w.state.register l n → Acknowledged c (hs ++ step_happened c w.state e ∷ []) (finish (Calm.moves c w.state e)).state.network.sent (Calm.moves c w.state e).state.register l n
+  acks_after l n h = acks_sent l n (acked_stays c (hs ++ step_happened c w.state e ∷ []) w.state.network.sent w.state.register reg follow.0 stays l n h)
 
-  pub acks_both : (l n : ℕ) → Acknowledged c hs w.state.network.sent w.state.register l n → Acknowledged c (hs ++ happened c w.state e ∷ []) (finish (Step.happens c w.state e)).state.network.sent (Step.happens c w.state e).state.register l n
+  pub acks_both : (l n : ℕ) → Acknowledged c hs w.state.network.sent w.state.register l n → Acknowledged c (hs ++ step_happened c w.state e ∷ []) (finish (Calm.moves c w.state e)).state.network.sent (Calm.moves c w.state e).state.register l n
   acks_both l n h = acks_after l n (acks_next w.state.register l n h)
 
   -- ---- acknowledgements ----
-  pub acks_before : (t : List ℕ) (q : Sequencer) → find_named t w.state.sequencers ≡ Some q → AcksFine c (hs ++ happened c w.state e ∷ []) w.state.network.sent w.state.register q
-  acks_before t q f = acks_later c hs (hs ++ happened c w.state e ∷ []) w.state.network.sent w.state.network.sent (λ m i. i) (λ l n p a. (a.0, appends_grows hs w.state.register e (Step.happens c w.state e) l n a.0 p a.1)) w.state.register w.state.register (up_same w.state.register) (stays_same c w.state.register) (acks_next w.state.register) q (R.acks t q f)
+  pub acks_before : (t : List ℕ) (q : Sequencer) → find_named t w.state.sequencers ≡ Some q → AcksFine c (hs ++ step_happened c w.state e ∷ []) w.state.network.sent w.state.register q
+  acks_before t q f = acks_later c hs (hs ++ step_happened c w.state e ∷ []) w.state.network.sent w.state.network.sent (λ m i. i) (λ l n p a. (a.0, appends_grows hs w.state.register e (Calm.moves c w.state e) l n a.0 p a.1)) w.state.register w.state.register (up_same w.state.register) (stays_same c w.state.register) (acks_next w.state.register) q (R.acks t q f)
 
   pub stored_told_now : (name : List ℕ) (q : Sequencer) → Live w.state name q → (m : Msg) → In m w.state.network.sent → m.to ≡ whos.Sequencer q.epoch → m.log ≡ q.log → (n : ℕ) → m.body ≡ bodies.Stored n → tells_stored w.state.network.sent q.log n q.epoch (Step.sender_node m.from) ≡ true
   stored_told_now name q v m i t l n h = ((reply c w.state e hs w.made R.said B.0.1.epochs R.shows R.bounded R.below R.recoveries R.stored_from R.each settlers name q v m i t l w.state.register (up_same w.state.register) (stays_same c w.state.register)).stored n h).0
@@ -213,11 +214,11 @@ module _ (c : Config) (hs : List Happened) (w : World) (e : Event) (B : Base c h
   pub cleaned_now : (name : List ℕ) (q : Sequencer) → Live w.state name q → (m : Msg) → In m w.state.network.sent → m.log ≡ q.log → (n : ℕ) (y : Summary) → m.body ≡ bodies.CleanHere n y → home_epoch n ≤ lce_of w.state.register q.log
   cleaned_now name q v m i l n y h = cleaned_closed c w.state e hs w.made R.said B.0.1.epochs R.shows R.bounded R.below R.recoveries R.stored_from R.each settlers name q v m i l n y h
 
-  pub numbers_now : (name : List ℕ) (q : Sequencer) (payload : List ℕ) → Live w.state name q → appending q payload ≡ Numbered → AsksToAppend name payload e → In (lines.Appended name (numbered q.epoch (next_esn q))) (Step.happens c w.state e).lines → (next_esn q < last_esn) × AppendedBy (hs ++ happened c w.state e ∷ []) q.log (numbered q.epoch (next_esn q)) payload
+  pub numbers_now : (name : List ℕ) (q : Sequencer) (payload : List ℕ) → Live w.state name q → appending q payload ≡ Numbered → AsksToAppend name payload (event_of e) → In (lines.Appended name (numbered q.epoch (next_esn q))) (Calm.moves c w.state e).lines → (next_esn q < last_esn) × AppendedBy (hs ++ step_happened c w.state e ∷ []) q.log (numbered q.epoch (next_esn q)) payload
   numbers_now name q payload v a i x = (below_last q payload (counts_of c hs w B name q v.named).small a, (append_given c hs w e B G name q payload v a i x).appended payload refl)
 
-  pub acks_now : acks.Result c w.state e (hs ++ happened c w.state e ∷ []) acks_before rows_before stored_told_now cleaned_now numbers_now (Step.happens c w.state e) (made_on c w.state e)
-  acks_now = dispatch c w.state e (acks.Result c w.state e (hs ++ happened c w.state e ∷ []) acks_before rows_before stored_told_now cleaned_now numbers_now) B.0.0 (acks_cases c w.state e (hs ++ happened c w.state e ∷ []) acks_before rows_before stored_told_now cleaned_now numbers_now)
+  pub acks_now : acks.Result c w.state e (hs ++ step_happened c w.state e ∷ []) acks_before rows_before stored_told_now cleaned_now numbers_now (Calm.moves c w.state e) (made_on c w.state (event_of e))
+  acks_now = dispatch c w.state e (acks.Result c w.state e (hs ++ step_happened c w.state e ∷ []) acks_before rows_before stored_told_now cleaned_now numbers_now) B.0.0 (acks_cases c w.state e (hs ++ step_happened c w.state e ∷ []) acks_before rows_before stored_told_now cleaned_now numbers_now)
 
   released_before : (name : List ℕ) (q : Sequencer) → find_named name w.state.sequencers ≡ Some q → ReleaseFine c hs w.state.network.sent w.state.register q.log (released_of q)
   released_before name q f = released_fine c hs w.state.network.sent w.state.register q (R.acks name q f) (counts_of c hs w B name q f).small
@@ -225,14 +226,14 @@ module _ (c : Config) (hs : List Happened) (w : World) (e : Event) (B : Base c h
   good_before : (name : List ℕ) (q : Sequencer) → find_named name w.state.sequencers ≡ Some q → LngFine c hs w.state.network.sent w.state.register q.log q.epoch q.lng
   good_before name q f = good_fine c hs w.state.network.sent w.state.register q (R.acks name q f)
 
-  acks_next_state : (t : List ℕ) (q : Sequencer) → find_named t (Step.happens c w.state e).state.sequencers ≡ Some q → AcksFine c (hs ++ happened c w.state e ∷ []) (finish (Step.happens c w.state e)).state.network.sent (Step.happens c w.state e).state.register q
-  acks_next_state t q f = acks_later c (hs ++ happened c w.state e ∷ []) (hs ++ happened c w.state e ∷ []) w.state.network.sent (finish (Step.happens c w.state e)).state.network.sent into_after (λ l n p a. a) (Step.happens c w.state e).state.register (Step.happens c w.state e).state.register (up_same (Step.happens c w.state e).state.register) (stays_same c (Step.happens c w.state e).state.register) acks_sent q
+  acks_next_state : (t : List ℕ) (q : Sequencer) → find_named t (Calm.moves c w.state e).state.sequencers ≡ Some q → AcksFine c (hs ++ step_happened c w.state e ∷ []) (finish (Calm.moves c w.state e)).state.network.sent (Calm.moves c w.state e).state.register q
+  acks_next_state t q f = acks_later c (hs ++ step_happened c w.state e ∷ []) (hs ++ step_happened c w.state e ∷ []) w.state.network.sent (finish (Calm.moves c w.state e)).state.network.sent into_after (λ l n p a. a) (Calm.moves c w.state e).state.register (Calm.moves c w.state e).state.register (up_same (Calm.moves c w.state e).state.register) (stays_same c (Calm.moves c w.state e).state.register) acks_sent q
       (acks_now refl follow.0 stays t q f).0
 
-  released_after : Base c (hs ++ happened c w.state e ∷ []) (next_world c w e) → (name : List ℕ) (q p : Sequencer) → Live w.state name q → find_named name (Step.happens c w.state e).state.sequencers ≡ Some p → ReleaseFine c (hs ++ happened c w.state e ∷ []) (finish (Step.happens c w.state e)).state.network.sent (Step.happens c w.state e).state.register q.log (released_of p)
+  released_after : Base c (hs ++ step_happened c w.state e ∷ []) (after_step c w e) → (name : List ℕ) (q p : Sequencer) → Live w.state name q → find_named name (Calm.moves c w.state e).state.sequencers ≡ Some p → ReleaseFine c (hs ++ step_happened c w.state e ∷ []) (finish (Calm.moves c w.state e)).state.network.sent (Calm.moves c w.state e).state.register q.log (released_of p)
   unfolding finish
-  released_after C name q p v f = subst (λ l. ReleaseFine c (hs ++ happened c w.state e ∷ []) (finish (Step.happens c w.state e)).state.network.sent (Step.happens c w.state e).state.register l (released_of p)) ((acks_now refl follow.0 stays name p f).1 q v.named)
-      (released_fine c (hs ++ happened c w.state e ∷ []) (finish (Step.happens c w.state e)).state.network.sent (Step.happens c w.state e).state.register p (acks_next_state name p f) (counts_of c (hs ++ happened c w.state e ∷ []) (next_world c w e) C name p f).small)
+  released_after C name q p v f = subst (λ l. ReleaseFine c (hs ++ step_happened c w.state e ∷ []) (finish (Calm.moves c w.state e)).state.network.sent (Calm.moves c w.state e).state.register l (released_of p)) ((acks_now refl follow.0 stays name p f).1 q v.named)
+      (released_fine c (hs ++ step_happened c w.state e ∷ []) (finish (Calm.moves c w.state e)).state.network.sent (Calm.moves c w.state e).state.register p (acks_next_state name p f) (counts_of c (hs ++ step_happened c w.state e ∷ []) (after_step c w e) C name p f).small)
 
   -- ---- clean nodes ----
   pub once_before : AppendsOnce hs
@@ -260,7 +261,7 @@ module _ (c : Config) (hs : List Happened) (w : World) (e : Event) (B : Base c h
   keyed_load : (y l : ℕ) → Keyed (log_of (load (node_at w.state y)).plain l)
   keyed_load y l = keyed_plain y (load (node_at w.state y)).plain (has.load_has _ _ _ _ _ _ (λ y l. zero_release c hs w l) y (node_at w.state y) (R.said.nodes y)).plain (load_node w.made w.state.network.sent y (node_at w.state y) (R.holds y)).0 l
 
-  cleans_now : (y : ℕ) → NodeClean y (node_at (Step.happens c w.state e).state y)
+  cleans_now : (y : ℕ) → NodeClean y (node_at (Calm.moves c w.state e).state y)
   cleans_now = dispatch c w.state e (λ d m. (y : ℕ) → NodeClean y (node_at d.state y)) B.0.0
       (node_cases c w.state e NodeClean (cleans_keep c w.state e R.cleans keyed_now keyed_load))
 
@@ -288,7 +289,7 @@ module _ (c : Config) (hs : List Happened) (w : World) (e : Event) (B : Base c h
     reached_settled l y s b (inl i) = as_drawn l (epoch_of s) (R.said.sent _ i).0
     reached_settled l y s b (inr t) = as_drawn l (epoch_of s) (subst (Reached w.state.register l) t.epoch (R.said.sent _ t.told_so).0.1)
 
-  copies_now : (y : ℕ) → NodeCopies w.made w.state.network.sent y (node_at (Step.happens c w.state e).state y)
+  copies_now : (y : ℕ) → NodeCopies w.made w.state.network.sent y (node_at (Calm.moves c w.state e).state y)
   copies_now = dispatch c w.state e (λ d m. (y : ℕ) → NodeCopies w.made w.state.network.sent y (node_at d.state y)) B.0.0
       (node_cases c w.state e (NodeCopies w.made w.state.network.sent) (copies_keep c w.state e hs w.made R.copies (λ y l. (R.holds y).0.fine l) (λ y l. (load_node w.made w.state.network.sent y (node_at w.state y) (R.holds y)).0.fine l) keyed_now (λ y l. (R.cleans y).plain l) store_says same_summaries settled_known))
 
@@ -371,7 +372,7 @@ module _ (c : Config) (hs : List Happened) (w : World) (e : Event) (B : Base c h
   pub low_now : (t : List ℕ) (q : Sequencer) → find_named t w.state.sequencers ≡ Some q → q.lce ≤ lce_of w.state.register q.log
   low_now t q f = (R.acks t q f).closed
 
-  pub went_now : Went c w.state e low_now R.next (Step.happens c w.state e) (made_on c w.state e)
+  pub went_now : Went c w.state e low_now R.next (Calm.moves c w.state e) (made_on c w.state (event_of e))
   went_now = dispatch c w.state e (Went c w.state e low_now R.next) B.0.0 (went_cases c w.state e low_now R.next)
 
   -- where a summary comes from
@@ -382,12 +383,12 @@ module _ (c : Config) (hs : List Happened) (w : World) (e : Event) (B : Base c h
   came = summaries_after c w.state e Came (λ l k y f. inl f) (λ name q v y short live r t h o. inr (name, q, v, short, live, r, t, h, o, refl, refl)) B.0.0
 
   full_next : (l k b : ℕ) → FullAt c hs w.state.network.sent w.made w.state.register l k b → FullAt c next after_sent all_made reg l k b
-  full_next l k b f = (f.0, In_right _ (made_on c w.state e) w.made f.1, full_later c hs next w.state.network.sent after_sent into_after w.state.register reg follow.0 stays acks_both l k b f.0 (R.plans l k b f.0 f.1).reached f.2)
+  full_next l k b f = (f.0, In_right _ (made_on c w.state (event_of e)) w.made f.1, full_later c hs next w.state.network.sent after_sent into_after w.state.register reg follow.0 stays acks_both l k b f.0 (R.plans l k b f.0 f.1).reached f.2)
 
-  last_next : (l k b : ℕ) → k ≤ lce_of reg l → LastPlan w l k b → LastPlan (next_world c w e) l k b
+  last_next : (l k b : ℕ) → k ≤ lce_of reg l → LastPlan w l k b → LastPlan (after_step c w e) l k b
   unfolding finish
   last_next l k b low h = record {
-    above = λ a d i. elim (In-append _ (made_on c w.state e) w.made i) [
+    above = λ a d i. elim (In-append _ (made_on c w.state (event_of e)) w.made i) [
       | inl j ↦ elim (cases_lt b a) [
         | inl lt ↦ absurd (let z = went_now.plans l k a d j in let x = h.knows z.0 z.1 z.2 (sym z.3) (let y = z.4 in omega arith) in let v = z.5 in omega arith)
         | inr ge ↦ ge
@@ -400,7 +401,7 @@ module _ (c : Config) (hs : List Happened) (w : World) (e : Event) (B : Base c h
     ]);
   }
 
-  how_next : (l k : ℕ) (y : Summary) → find k (epochs_of reg l).summaries ≡ Some y → ClosedHow c next (next_world c w e) l k y
+  how_next : (l k : ℕ) (y : Summary) → find k (epochs_of reg l).summaries ≡ Some y → ClosedHow c next (after_step c w e) l k y
   unfolding finish
   how_next l k y f = elim (came l k y f) [
     | inl a ↦ elim (R.closed_how l k y a) [ inl z ↦ inl (full_next l k y.ballot z) | inr z ↦ inr (last_next l k y.ballot (follow.1 l k y f) z) ]
@@ -415,9 +416,9 @@ module _ (c : Config) (hs : List Happened) (w : World) (e : Event) (B : Base c h
       | inr t ↦ absurd (let u : (short && not ((epochs_of w.state.register m).epoch == y.ballot)) ≡ true = and_from _ _ z (ap not t) in not_both _ u o)
     ]
 
-    newest_last : (l k : ℕ) (y : Summary) → find k (epochs_of reg l).summaries ≡ Some y → (epochs_of w.state.register l).epoch ≡ y.ballot → LastPlan (next_world c w e) l k y.ballot
+    newest_last : (l k : ℕ) (y : Summary) → find k (epochs_of reg l).summaries ≡ Some y → (epochs_of w.state.register l).epoch ≡ y.ballot → LastPlan (after_step c w e) l k y.ballot
     newest_last l k y f n = record {
-      above = λ a d i. elim (In-append _ (made_on c w.state e) w.made i) [ inl j ↦ (let z = (new_plan l k a d j).1 in omega arith) | inr j ↦ (let z = R.below l k a d j in omega arith) ];
+      above = λ a d i. elim (In-append _ (made_on c w.state (event_of e)) w.made i) [ inl j ↦ (let z = (new_plan l k a d j).1 in omega arith) | inr j ↦ (let z = R.below l k a d j in omega arith) ];
       knows = λ t p g lg lt. (let z = went_now.sequencers t p g in elim z.whence [
         | inl v ↦ absurd (let a = v.3 in let x = B.0.1.epochs.drawn t v.0 v.1 in let q = ap (λ m. (epochs_of w.state.register m).epoch) (sym v.2 ∙ lg) in omega arith)
         | inr v ↦ subst (λ m. lce_of reg m ≤ p.lce → k ≤ p.lce) (sym lg) (λ u. let x = follow.1 l k y f in omega arith) v
@@ -425,7 +426,7 @@ module _ (c : Config) (hs : List Happened) (w : World) (e : Event) (B : Base c h
     }
 
   -- ---- loss plans ----
-  pub fresh_losses : FreshLosses (made_on c w.state e) w.state.register
+  pub fresh_losses : FreshLosses (made_on c w.state (event_of e)) w.state.register
   fresh_losses l x b f i lo = elim (new_plan l x b f i).0.why [ inl h ↦ absurd (not_both f.loss lo h.0) | inr h ↦ h.1.open_still ]
 
   cut_said : (y : ℕ) (k : Cut) → (node_at w.state y).cut ≡ Some k → PlainSaid c hs w k.plain
@@ -454,7 +455,7 @@ module _ (c : Config) (hs : List Happened) (w : World) (e : Event) (B : Base c h
   lost_passes : (l x b y : ℕ) → Reached w.state.register l x → LostTold w.state.network.sent l x b y → Open w.state.register l x → test l x y ≡ true
   lost_passes l x b y o h u = unserved_gone (node_at w.state y) l x (subst (AllUnserved (node_at w.state y) l) h.home (R.lost_said l y b h.number h.round h.generation h.end h.said (let z = o.0 in let k = h.home in omega arith)).1) (unclean y l x o u)
 
-  pub plan_now : (l x b : ℕ) (f : Basis) → In (plan_of l x b f) (made_on c w.state e) → PlanMade c hs w.state.network.sent w.made w.state.register l x b f
+  pub plan_now : (l x b : ℕ) (f : Basis) → In (plan_of l x b f) (made_on c w.state (event_of e)) → PlanMade c hs w.state.network.sent w.made w.state.register l x b f
   plan_now l x b f i = let n = (new_plan l x b f i).0 in just_made c hs w.state.network.sent w.made w.state.register test l x b f (λ y h u. lost_passes l x b y n.reached h u) R.pages_of n
 
   -- what looks show
@@ -467,22 +468,22 @@ module _ (c : Config) (hs : List Happened) (w : World) (e : Event) (B : Base c h
   own_look : (t : List ℕ) (q : Sequencer) → find_named t w.state.sequencers ≡ Some q → (x : ℕ) → 0 < x → x < q.epoch → LookIn c w.state.register w.joined q.log x (looks_at c w.state.register q.log x).spec
   own_look t q f x pos lt = let o : Reached w.state.register q.log x = (pos, let z = (R.acks t q f).reached.1 in omega arith) in (o, λ y i. now_members c w.joined w.state.register q.log x y R.follow R.each o i)
 
-  looks_now : AllLook (LookIn c w.state.register w.joined) c w.state e R.recovers own_look activated_look (Step.happens c w.state e) (made_on c w.state e)
+  looks_now : AllLook (LookIn c w.state.register w.joined) c w.state e R.recovers own_look activated_look (Calm.moves c w.state e) (made_on c w.state (event_of e))
   looks_now = dispatch c w.state e (AllLook (LookIn c w.state.register w.joined) c w.state e R.recovers own_look activated_look) B.0.0 (look_cases (LookIn c w.state.register w.joined) c w.state e R.recovers own_look activated_look)
 
   abbrev new_joined : List Joined
-  new_joined = joined_on w.state (finish (Step.happens c w.state e)).state e
+  new_joined = joined_on w.state (finish (Calm.moves c w.state e)).state (event_of e)
 
   epoch_next : (l x y : ℕ) → Reached w.state.register l x → inset.InEpoch c w.state.register w.joined l x y → inset.InEpoch c reg (new_joined ++ w.joined) l x y
   epoch_next l x y o (inl i) = inl (subst (λ (p : Spec). In y (nodes_of p)) (sym (stays.specs l x o)) i)
   epoch_next l x y o (inr j) = inr (joins_more new_joined w.joined l x y j)
 
-  posts_now : inset.InSent c w.state.register w.joined all_made (Step.happens c w.state e).sends
+  posts_now : inset.InSent c w.state.register w.joined all_made (Calm.moves c w.state e).sends
   posts_now = dispatch c w.state e (inset.Posts c w.joined w.made w.state e known_now activated_ask) B.0.0 (inset.posts_cases c w.joined w.made w.state e known_now activated_ask) (λ l x b f i. ends_in c hs w.state.network.sent w.made w.state.register l x b f (plan_now l x b f i))
 
   in_next : inset.InSent c reg (new_joined ++ w.joined) all_made after_sent
-  in_next m i b y f t = elim (sent_by (Step.happens c w.state e) m i) [
-    | inl a ↦ grown w.made m.body (λ l n g z. elim z [ inl v ↦ inl v | inr v ↦ inr (v.0, In_right _ (made_on c w.state e) w.made v.1, v.2) ]) (R.in_sent m (subst (λ (z : List Msg). In m z) same_sent a) b y f t)
+  in_next m i b y f t = elim (sent_by (Calm.moves c w.state e) m i) [
+    | inl a ↦ grown w.made m.body (λ l n g z. elim z [ inl v ↦ inl v | inr v ↦ inr (v.0, In_right _ (made_on c w.state (event_of e)) w.made v.1, v.2) ]) (R.in_sent m (subst (λ (z : List Msg). In m z) same_sent a) b y f t)
     | inr a ↦ grown all_made m.body (λ l n g z. z) (posts_now m a b y f t)
   ] where
     reached_next : (l x : ℕ) → Reached w.state.register l x → Reached reg l x
@@ -510,20 +511,20 @@ module _ (c : Config) (hs : List Happened) (w : World) (e : Event) (B : Base c h
   page_holes : (m : Msg) → In m w.state.network.sent → (n round from upto : ℕ) (es : List Entry) → m.to ≡ whos.Node n → m.body ≡ bodies.ReadPage round from upto true es → (x : Entry) → In x es → HoleClosed c w.made w.state.register w.state.network.sent m.log x
   page_holes m i n round from upto es t h x j = let z = (subst (BodySaidIn c hs w m.log m.from) h (R.said.sent m i).0).0.1 x (told_entry x es j (message_whole m n round from upto es t h (R.said.sent m i).1 x j)) in (z.hole, z.closed.low, z.content)
 
-  marks_now : (y : ℕ) → MarkedNode c w.made w.state y (node_at (Step.happens c w.state e).state y)
+  marks_now : (y : ℕ) → MarkedNode c w.made w.state y (node_at (Calm.moves c w.state e).state y)
   marks_now = dispatch c w.state e (λ d m. (y : ℕ) → MarkedNode c w.made w.state y (node_at d.state y)) B.0.0
       (node_cases c w.state e (MarkedNode c w.made w.state) (marks_keep c w.made w.state e R.marks R.full R.ups (λ y. (R.holds y).0.seals) sent_from page_holes))
 
-  marks_next : (y : ℕ) (p : Plain) → MayHold (node_at (Step.happens c w.state e).state y) p → Marked c all_made reg after_sent y p
+  marks_next : (y : ℕ) (p : Plain) → MayHold (node_at (Calm.moves c w.state e).state y) p → Marked c all_made reg after_sent y p
   marks_next y p i = let M = marks_now y p i in record {
     of_set = λ l k x q lt. (let h = M.of_set l k x q lt in ((h.0.0, let u = (follow.0 l).0 in let v = h.0.1 in omega arith), subst (λ (p : Spec). In y (nodes_of p)) (sym (stays.specs l (epoch_of k) h.0)) h.1));
-    shown = λ l b from upto t lng es j. elim (sent_by (Step.happens c w.state e) _ j) [
+    shown = λ l b from upto t lng es j. elim (sent_by (Calm.moves c w.state e) _ j) [
       | inl a ↦ M.shown l b from upto t lng es (subst (λ (z : List Msg). In (from_node l y b (bodies.DigestPage from upto t lng es)) z) same_sent a)
       | inr a ↦ (let z = sends_now.pages l y b from upto t lng es a in λ k f q ep lo hi lt un. z.1.has k f (subst (λ v. find k (log_of v l).entries ≡ Some f) (one_state z.0.whole i) q) ep lo hi)
     ];
-    refilled = λ l k x q pos le. (let h = M.refilled l k x q pos le in (hole_grows c hs e (Step.happens c w.state e) w.made (made_on c w.state e) w.state.network.sent after_sent w.state.register reg into_after follow.0 stays l x.number x.what fresh_losses h.1 h.0, (let u = (follow.0 l).1 in let v = h.1 in omega arith), h.2));
+    refilled = λ l k x q pos le. (let h = M.refilled l k x q pos le in (hole_grows c hs e (Calm.moves c w.state e) w.made (made_on c w.state (event_of e)) w.state.network.sent after_sent w.state.register reg into_after follow.0 stays l x.number x.what fresh_losses h.1 h.0, (let u = (follow.0 l).1 in let v = h.1 in omega arith), h.2));
     blank = M.blank;
-    low = λ l b from upto t lng es j lt. elim (sent_by (Step.happens c w.state e) _ j) [
+    low = λ l b from upto t lng es j lt. elim (sent_by (Calm.moves c w.state e) _ j) [
       | inl a ↦ low_later p l (epoch_of from) b lng (M.low l b from upto t lng es (subst (λ (z : List Msg). In (from_node l y b (bodies.DigestPage from upto t lng es)) z) same_sent a) lt)
       | inr a ↦ (let z = sends_now.pages l y b from upto t lng es a in inr (inl (let k = z.1.known in let v = ap (λ (u : Plain). lng_at (log_of u l) (epoch_of from)) (one_state z.0.whole i) in omega arith)))
     ];
@@ -531,19 +532,19 @@ module _ (c : Config) (hs : List Happened) (w : World) (e : Event) (B : Base c h
     low_later : (p : Plain) (l x b lng : ℕ) → LowAt w.made p l x b lng → LowAt all_made p l x b lng
     low_later p l x b lng (inl h) = inl h
     low_later p l x b lng (inr (inl h)) = inr (inl h)
-    low_later p l x b lng (inr (inr h)) = inr (inr (h.0, h.1, In_right _ (made_on c w.state e) w.made h.2, h.3, h.4))
+    low_later p l x b lng (inr (inr h)) = inr (inr (h.0, h.1, In_right _ (made_on c w.state (event_of e)) w.made h.2, h.3, h.4))
 
-    one_state : (node_at (Step.happens c w.state e).state y).cut ≡ None → MayHold (node_at (Step.happens c w.state e).state y) p → p ≡ (node_at (Step.happens c w.state e).state y).plain
+    one_state : (node_at (Calm.moves c w.state e).state y).cut ≡ None → MayHold (node_at (Calm.moves c w.state e).state y) p → p ≡ (node_at (Calm.moves c w.state e).state y).plain
     one_state n (inl q) = q
     one_state n (inr k) = absurd (let z : None ≡ Some k.0 = sym n ∙ k.1 in not_none z)
 
   -- ---- last known good places of loss plans ----
 
   -- what a page of this step says, of a node that is whole in an older loss plan's digest
-  page_low : (l x b g from upto trim lng : ℕ) (es : List Entry) (f : Basis) (t : Told) → In (plan_of l x b f) w.made → f.loss ≡ true → In t f.digest → t.whole ≡ true → In (from_node l t.node g (bodies.DigestPage from upto trim lng es)) (Step.happens c w.state e).sends → epoch_of from ≡ x → lng ≤ digest_lng f.digest
+  page_low : (l x b g from upto trim lng : ℕ) (es : List Entry) (f : Basis) (t : Told) → In (plan_of l x b f) w.made → f.loss ≡ true → In t f.digest → t.whole ≡ true → In (from_node l t.node g (bodies.DigestPage from upto trim lng es)) (Calm.moves c w.state e).sends → epoch_of from ≡ x → lng ≤ digest_lng f.digest
   page_low l x b g from upto trim lng es f t i lo j wh k q = by_low ((marks_now t.node plain (inl refl)).low l b v.from v.upto v.trim v.lng v.entries v.page (let z = P.later in let y = v.epoch in omega arith)) where
     plain : Plain
-    plain = (node_at (Step.happens c w.state e).state t.node).plain
+    plain = (node_at (Calm.moves c w.state e).state t.node).plain
 
     P : PlanMade c hs w.state.network.sent w.made w.state.register l x b f
     P = R.plans l x b f i
@@ -551,7 +552,7 @@ module _ (c : Config) (hs : List Happened) (w : World) (e : Event) (B : Base c h
     v : Covered w.state.network.sent l x b t (numbered x last_esn)
     v = (P.digest.told t j).covers (numbered x last_esn) (omega arith) (let z = P.good_most in omega arith) (inr wh)
 
-    page : Allowed (node_at (Step.happens c w.state e).state t.node) × PageIn plain l g from upto trim lng es
+    page : Allowed (node_at (Calm.moves c w.state e).state t.node) × PageIn plain l g from upto trim lng es
     page = sends_now.pages l t.node g from upto trim lng es k
 
     own : v.lng ≤ digest_lng f.digest
@@ -570,32 +571,32 @@ module _ (c : Config) (hs : List Happened) (w : World) (e : Event) (B : Base c h
     ]
 
   lows_next : PagesLow all_made after_sent
-  lows_next l x b f i lo t j wh g from upto trim lng es k q lt = elim (In-append _ (made_on c w.state e) w.made i) [
+  lows_next l x b f i lo t j wh g from upto trim lng es k q lt = elim (In-append _ (made_on c w.state (event_of e)) w.made i) [
     | inl a ↦ absurd (elim (new_plan l x b f a).0.why [
       | inl h ↦ not_both f.loss lo h.0
       | inr h ↦ (let z = h.1.newest in let y = handed in omega arith)
     ])
-    | inr a ↦ elim (sent_by (Step.happens c w.state e) _ k) [
+    | inr a ↦ elim (sent_by (Calm.moves c w.state e) _ k) [
       | inl o ↦ R.lows l x b f a lo t j wh g from upto trim lng es (subst (λ (z : List Msg). In (from_node l t.node g (bodies.DigestPage from upto trim lng es)) z) same_sent o) q lt
       | inr o ↦ page_low l x b g from upto trim lng es f t a lo j wh o q
     ]
   ] where
     handed : g ≤ (epochs_of w.state.register l).epoch
-    handed = elim (sent_by (Step.happens c w.state e) _ k) [
+    handed = elim (sent_by (Calm.moves c w.state e) _ k) [
       | inl o ↦ R.drawn _ (subst (λ (z : List Msg). In (from_node l t.node g (bodies.DigestPage from upto trim lng es)) z) same_sent o) g (inr refl)
       | inr o ↦ answer_before c w.state e B.0.0 R.drawn l t.node g _ o
     ]
 
-  full_now : (y : ℕ) → FullNode (node_at (Step.happens c w.state e).state y)
+  full_now : (y : ℕ) → FullNode (node_at (Calm.moves c w.state e).state y)
   full_now = dispatch c w.state e (λ d m. (y : ℕ) → FullNode (node_at d.state y)) B.0.0 (node_cases c w.state e (λ y x. FullNode x) (full_keeps c w.state e R.full))
 
   -- who stores a number has it, of an epoch that it serves
   stored_next : inset.StoredOf c reg after_sent
-  stored_next l y n b i = elim (sent_by (Step.happens c w.state e) _ i) [
+  stored_next l y n b i = elim (sent_by (Calm.moves c w.state e) _ i) [
     | inl a ↦ (let h = R.stored_of l y n b (subst (λ (z : List Msg). In (from_node l y b (bodies.Stored n)) z) same_sent a) in
         ((h.0.0, let u = (follow.0 l).0 in let v = h.0.1 in omega arith), subst (λ (p : Spec). In y (nodes_of p)) (sym (stays.specs l (epoch_of n) h.0)) h.1))
     | inr a ↦ (let z = (sends_now.stored l y n b a).1 in
-        (marks_next y (node_at (Step.happens c w.state e).state y).plain (inl refl)).of_set l n z.held.entry z.held.found_at (served_later (log_of (node_at (Step.happens c w.state e).state y).plain l) (epoch_of n) (full_now y (node_at (Step.happens c w.state e).state y).plain (inl refl) l) (served_positive (log_of (node_at (Step.happens c w.state e).state y).plain l) (epoch_of n) z.served) z.served))
+        (marks_next y (node_at (Calm.moves c w.state e).state y).plain (inl refl)).of_set l n z.held.entry z.held.found_at (served_later (log_of (node_at (Calm.moves c w.state e).state y).plain l) (epoch_of n) (full_now y (node_at (Calm.moves c w.state e).state y).plain (inl refl) l) (served_positive (log_of (node_at (Calm.moves c w.state e).state y).plain l) (epoch_of n) z.served) z.served))
   ]
 
   of_next : (l x y : ℕ) → Reached w.state.register l x × In y (fixed_at c w.state.register l x) → Reached reg l x × In y (fixed_at c reg l x)
@@ -604,46 +605,46 @@ module _ (c : Config) (hs : List Happened) (w : World) (e : Event) (B : Base c h
   drawn_own : (name : List ℕ) (q : Sequencer) → find_named name w.state.sequencers ≡ Some q → q.epoch ≤ (epochs_of w.state.register q.log).epoch
   drawn_own name q f = B.0.1.epochs.drawn name q f
 
-  within_now : (y : ℕ) → LostWithin w.state.register (node_at (Step.happens c w.state e).state y)
+  within_now : (y : ℕ) → LostWithin w.state.register (node_at (Calm.moves c w.state e).state y)
   within_now = dispatch c w.state e (λ d m. (y : ℕ) → LostWithin w.state.register (node_at d.state y)) B.0.0 (node_cases c w.state e (λ y x. LostWithin w.state.register x) (within_keeps c w.state e R.logs R.within))
 
-  losses_next : (l x b : ℕ) (f : Basis) → In (plan_of l x b f) all_made → f.loss ≡ true → LossKept c (next_world c w e).state l x b f
+  losses_next : (l x b : ℕ) (f : Basis) → In (plan_of l x b f) all_made → f.loss ≡ true → LossKept c (after_step c w e).state l x b f
   unfolding finish
-  losses_next l x b f i lo = loss_step c w e B.0.0 R.ups R.within follow.0 stays l x b f (elim (In-append _ (made_on c w.state e) w.made i) [
+  losses_next l x b f i lo = loss_step c w e B.0.0 R.ups R.within follow.0 stays l x b f (elim (In-append _ (made_on c w.state (event_of e)) w.made i) [
     | inl a ↦ loss_made c hs w.made w.state l x b f R.drawn lo (new_plan l x b f a).0 (plan_now l x b f a)
     | inr a ↦ R.losses l x b f a lo
   ])
 
-  pub along_step : Base c (hs ++ happened c w.state e ∷ []) (next_world c w e) → Along c (hs ++ happened c w.state e ∷ []) (next_world c w e)
+  pub along_step : Base c (hs ++ step_happened c w.state e ∷ []) (after_step c w e) → Along c (hs ++ step_happened c w.state e ∷ []) (after_step c w e)
   unfolding finish
   along_step C = record {
     said = said_step c hs w e B G B.1.0 R.said stays into_after released_before (released_after C) good_before clean_shown (λ name q v y short live f h lce. (closing_now name q v y short live f h lce).0) fresh_losses;
     ups = ups_now;
-    holds = λ y. node_later w.made (made_on c w.state e) after_sent y (node_at (Step.happens c w.state e).state y) (holds_sent w.made w.state.network.sent (Step.happens c w.state e) sends_now same_sent holds_now y);
+    holds = λ y. node_later w.made (made_on c w.state (event_of e)) after_sent y (node_at (Calm.moves c w.state e).state y) (holds_sent w.made w.state.network.sent (Calm.moves c w.state e) sends_now same_sent holds_now y);
     shows = shows_next;
     bounded = bounded_next;
-    below = λ l x b f i. (let u = (follow.0 l).0 in elim (In-append _ (made_on c w.state e) w.made i) [ inl a ↦ (let z = (new_plan l x b f a).1 in omega arith) | inr a ↦ let z = R.below l x b f a in omega arith ]);
+    below = λ l x b f i. (let u = (follow.0 l).0 in elim (In-append _ (made_on c w.state (event_of e)) w.made i) [ inl a ↦ (let z = (new_plan l x b f a).1 in omega arith) | inr a ↦ let z = R.below l x b f a in omega arith ]);
     once = once_next;
-    recoveries = λ t v f. recovery_later hs next all_made [] w.state.network.sent after_sent (into c hs w.made w.state.network.sent w.state.register (Step.happens c w.state e) sends_now same_sent holds_now)
-        (λ l b n x s. says_grows hs w.state.register e (Step.happens c w.state e) all_made [] l b n x s) c reg reg (up_same reg) (stays_same c reg) (λ l n h. acks_sent l n (acks_next reg l n h)) v.log v.epoch v.recovery (λ x g i. i) ((digests_now follow.0 stays).0 t v f);
-    plans = λ l x b f i. elim (In-append _ (made_on c w.state e) w.made i) [
+    recoveries = λ t v f. recovery_later hs next all_made [] w.state.network.sent after_sent (into c hs w.made w.state.network.sent w.state.register (Calm.moves c w.state e) sends_now same_sent holds_now)
+        (λ l b n x s. says_grows hs w.state.register e (Calm.moves c w.state e) all_made [] l b n x s) c reg reg (up_same reg) (stays_same c reg) (λ l n h. acks_sent l n (acks_next reg l n h)) v.log v.epoch v.recovery (λ x g i. i) ((digests_now follow.0 stays).0 t v f);
+    plans = λ l x b f i. elim (In-append _ (made_on c w.state (event_of e)) w.made i) [
       | inl a ↦ plan_next l x b f (plan_now l x b f a)
       | inr a ↦ plan_next l x b f (R.plans l x b f a)
     ];
-    stored_from = λ m b i t. elim (sent_by (Step.happens c w.state e) m i) [
+    stored_from = λ m b i t. elim (sent_by (Calm.moves c w.state e) m i) [
       | inl a ↦ R.stored_from m b (subst (λ (z : List Msg). In m z) same_sent a) t
       | inr a ↦ dispatch c w.state e (λ d m. AnswersFrom d.sends) B.0.0 (sender_cases c w.state e) m b a t
     ];
     acks = acks_next_state;
     cleans = cleans_now;
-    copies = λ y. copies_later w.made (made_on c w.state e) after_sent y (node_at (Step.happens c w.state e).state y) (copies_sent w.made w.state.network.sent (Step.happens c w.state e) sends_now same_sent copies_now y);
+    copies = λ y. copies_later w.made (made_on c w.state (event_of e)) after_sent y (node_at (Calm.moves c w.state e).state y) (copies_sent w.made w.state.network.sent (Calm.moves c w.state e) sends_now same_sent copies_now y);
     logs = logs_rise c w.state e B.0.0 R.logs;
     each = each_closed c w.state e B.0.0 R.each;
     drawn = drawn_step c w e B.0.0 follow.0 same_sent drawn_own R.drawn;
     within = λ y p m l x h. (let z = within_now y p m l x h in let u = (follow.0 l).0 in omega arith);
     lost_said = lost.said_step c w e R.ups R.within B.0.0 (λ l. (follow.0 l).0) R.lost_said;
     losses = losses_next;
-    last = found_below c hs w.made (made_on c w.state e) w.state R.losses R.last R.below new_plan plan_now;
+    last = found_below c hs w.made (made_on c w.state (event_of e)) w.state R.losses R.last R.below new_plan plan_now;
     in_sent = in_next;
     stored_of = stored_next;
     trimmed_of = λ l y b n t i. elim (trims_answered c w e B.0.0 R.ups R.joined R.in_sent l y b n t i) [ inl a ↦ of_next l (epoch_of n) y (R.trimmed_of l y b n t a) | inr a ↦ of_next l (epoch_of n) y a ];

@@ -3,7 +3,6 @@ use Rattle.std.proofs.Common.{◌≡◌, ◌∙◌, ◌⊎◌, ◌<◌, ℕ, inl
 use Rattle.std.proofs.lemmas.Bool.{eqb-true, eq-eqb}
 use Rattle.ld_lsn.specs.Number.{epoch_of}
 use Rattle.ld_config.specs.declared.config.Config.{Config}
-use Rattle.ld_schedule.specs.declared.event.Event.{Event}
 use Rattle.ld_msg.specs.declared.msg.What.{What}
 use Rattle.ld_msg.specs.declared.msg.Msg.{Msg}
 use Rattle.ld_msg.specs.declared.msg.Who.{Who}
@@ -19,7 +18,7 @@ use Rattle.ld_msg.specs.Register.{Register}
 use Rattle.ld_machine.specs.Config.{fixed_at}
 use Rattle.ld_machine.specs.State.{node_at, posted}
 use Rattle.ld_machine.specs.World.{World, In, from_node}
-use Rattle.ld_machine.specs.Run.{next_world}
+use Rattle.ld_machine.specs.Run.{after_step}
 use Rattle.ld_machine.specs.Step as Step
 use Rattle.ld_safety.proofs.Lists.{Some_inj, not_both, only}
 use Rattle.ld_safety.proofs.NodeSteps.{Served, store_decided, ask_decided, read_answered}
@@ -31,6 +30,7 @@ use Rattle.ld_safety.proofs.LostSaid.{served_not}
 use Rattle.ld_safety.proofs.InSet.{MayGo, Goes, AskGoes, InEpoch, InSent}
 use Rattle.ld_safety.proofs.Joins.{JoinedFine}
 use Rattle.ld_safety.proofs.Withheld.{one_kind}
+use Rattle.ld_machine.specs.Calm.{Move}
 
 -- ---- what was asked ----
 abbrev says_trim : ℕ → Body → Bool
@@ -123,7 +123,7 @@ posted_on who l [] m b i t = i
 posted_on who l (x ∷ bs) m b (inl e) t = let z : whos.Node x.0 ≡ whos.Sequencer b = sym (ap (λ (y : Msg). y.to) e) ∙ t in cc
 posted_on who l (x ∷ bs) m b (inr i) t = posted_on who l bs m b i t
 
-module _ (c : Config) (w : World) (v : Event) (N : NamesOnce w.state) (ups : (y : ℕ) → UpFine (node_at w.state y)) (J : JoinedFine w.joined w.state) (S : InSent c w.state.register w.joined w.made w.state.network.sent) where
+module _ (c : Config) (w : World) (v : Move) (N : NamesOnce w.state) (ups : (y : ℕ) → UpFine (node_at w.state y)) (J : JoinedFine w.joined w.state) (S : InSent c w.state.register w.joined w.made w.state.network.sent) where
   abbrev Of : ℕ → ℕ → ℕ → Type 0
   Of l e y = Reached w.state.register l e × In y (fixed_at c w.state.register l e)
 
@@ -176,13 +176,13 @@ module _ (c : Config) (w : World) (v : Event) (N : NamesOnce w.state) (ups : (y 
   }
 
   -- what is said in a step
-  pub trims_answered : (l y b n t : ℕ) → In (from_node l y b (bodies.TrimmedHere n t)) (next_world c w v).state.network.sent → In (from_node l y b (bodies.TrimmedHere n t)) w.state.network.sent ⊎ (Reached w.state.register l (epoch_of n) × In y (fixed_at c w.state.register l (epoch_of n)))
+  pub trims_answered : (l y b n t : ℕ) → In (from_node l y b (bodies.TrimmedHere n t)) (after_step c w v).state.network.sent → In (from_node l y b (bodies.TrimmedHere n t)) w.state.network.sent ⊎ (Reached w.state.register l (epoch_of n) × In y (fixed_at c w.state.register l (epoch_of n)))
   trims_answered l y b n t i = let k = talked c w.state v (λ ms ds. NewAnswers ms) new_talk N in elim (new_or_old c w.state v (from_node l y b (bodies.TrimmedHere n t)) k.same i) [
     | inl o ↦ inl o
     | inr o ↦ inr (k.talk.trim (from_node l y b (bodies.TrimmedHere n t)) l y b n o refl refl refl (eq-eqb n n refl))
   ]
 
-  pub pages_answered : (l y b from upto t lng : ℕ) (es : List Entry) → In (from_node l y b (bodies.DigestPage from upto t lng es)) (next_world c w v).state.network.sent → In (from_node l y b (bodies.DigestPage from upto t lng es)) w.state.network.sent ⊎ (Reached w.state.register l (epoch_of from) × In y (fixed_at c w.state.register l (epoch_of from)))
+  pub pages_answered : (l y b from upto t lng : ℕ) (es : List Entry) → In (from_node l y b (bodies.DigestPage from upto t lng es)) (after_step c w v).state.network.sent → In (from_node l y b (bodies.DigestPage from upto t lng es)) w.state.network.sent ⊎ (Reached w.state.register l (epoch_of from) × In y (fixed_at c w.state.register l (epoch_of from)))
   pages_answered l y b from upto t lng es i = let k = talked c w.state v (λ ms ds. NewAnswers ms) new_talk N in elim (new_or_old c w.state v (from_node l y b (bodies.DigestPage from upto t lng es)) k.same i) [
     | inl o ↦ inl o
     | inr o ↦ inr (k.talk.page (from_node l y b (bodies.DigestPage from upto t lng es)) l y b from o refl refl refl (eq-eqb from from refl))

@@ -8,7 +8,6 @@ use Rattle.ld_ids.specs.declared.set.Spec.{Spec}
 use Rattle.ld_ids.specs.Choice.{nodes_of, ring, left_out, choice_at}
 use Rattle.ld_config.specs.declared.config.Config.{Config}
 use Rattle.ld_config.specs.Bounds.{IsInBounds}
-use Rattle.ld_schedule.specs.declared.event.Event.{Event}
 use Rattle.ld_transcript.specs.declared.line.Line.{Line}
 use Rattle.ld_transcript.specs.declared.line.Line.TheVariants as lines
 use Rattle.ld_msg.specs.declared.msg.What.{What}
@@ -19,7 +18,7 @@ use Rattle.ld_msg.specs.declared.msg.Body.{Body}
 use Rattle.ld_msg.specs.declared.msg.Body.TheVariants as bodies
 use Rattle.ld_msg.specs.Choice.{choice}
 use Rattle.ld_msg.specs.Register.{Register, generation_of, epochs_in, epochs_of, lce_of}
-use Rattle.ld_msg.specs.Sequencer.{Sequencer, Numbered, called, on_reply, on_retry, to_each, next_esn, first_stores}
+use Rattle.ld_msg.specs.Sequencer.{Sequencer, Numbered, called, on_reply, to_each, next_esn, first_stores}
 use Rattle.ld_op.specs.declared.op.Op.{Op}
 use Rattle.ld_op.specs.declared.op.Op.TheVariants as ops
 use Rattle.ld_op.specs.Ticks.{Ticked, Cleans, Rebuilt, Asks, Nothing}
@@ -28,13 +27,13 @@ use Rattle.ld_machine.specs.Disk.{Node, keep_end}
 use Rattle.ld_machine.specs.State.{State, Done, finish, node_at, with_node, with_register, posted}
 use Rattle.ld_machine.specs.Facts.{Happened, Writes, OfLog}
 use Rattle.ld_machine.specs.World.{World, In, to_node_of}
-use Rattle.ld_machine.specs.Run.{next_world}
+use Rattle.ld_machine.specs.Run.{after_step}
 use Rattle.ld_machine.specs.Step as Step
 use Rattle.ld_safety.proofs.Lists.{Some_inj, not_none, cond_both}
-use Rattle.ld_safety.proofs.Traces.{Keeps, happened, beside_kept}
+use Rattle.ld_safety.proofs.Traces.{Keeps, step_happened, beside_kept}
 use Rattle.ld_safety.proofs.Steps.{writes_cases, sent_now}
 use Rattle.ld_safety.proofs.Lines.{Group, OfNodes, OfNumbers, OfActs, OfTrims, OfSets, OfItems, AllOf, none_of, one_of, kept_of, format_of, acted_of, items_of, line_of}
-use Rattle.ld_safety.proofs.Events.{Cases, dispatch, Live, is_quiet, refreshed, loaded}
+use Rattle.ld_safety.proofs.Events.{retry_call, announced, Cases, dispatch, Live, is_quiet, refreshed, loaded}
 use Rattle.ld_safety.proofs.Numbers.{CountedBy}
 use Rattle.ld_safety.proofs.Base.{counts_of}
 use Rattle.ld_safety.proofs.Given.{of_log_grows}
@@ -42,6 +41,8 @@ use Rattle.ld_safety.proofs.GivenSteps.{BaseGiven}
 use Rattle.ld_safety.proofs.Specs.{SpecFine, SetsFine, start_fine, fixed_fine, fine_step}
 use Rattle.ld_safety.proofs.Along.{Along}
 use Rattle.ld_safety.proofs.AlongSteps.{along_kept, into_after}
+use Rattle.ld_machine.specs.Calm as Calm
+use Rattle.ld_machine.specs.Calm.{Move}
 
 -- ---- a choice has a node ----
 abbrev Some_of : List ℕ → Type 0
@@ -100,7 +101,7 @@ record AppendTold (s : State) (sends : List Msg) (name : List ℕ) (n : ℕ) : T
   named : find_named name s.sequencers ≡ Some sequencer
   sent : StoreSent sends sequencer.log n
 
-module _ (c : Config) (s : State) (e : Event) (fine : (name : List ℕ) (q : Sequencer) → find_named name s.sequencers ≡ Some q → SpecFine q.spec) (small : (name : List ℕ) (q : Sequencer) → find_named name s.sequencers ≡ Some q → next_esn q ≤ last_esn) where
+module _ (c : Config) (s : State) (e : Move) (fine : (name : List ℕ) (q : Sequencer) → find_named name s.sequencers ≡ Some q → SpecFine q.spec) (small : (name : List ℕ) (q : Sequencer) → find_named name s.sequencers ≡ Some q → next_esn q ≤ last_esn) where
   Told : Done → Type 0
   Told d = (name : List ℕ) (n : ℕ) → In (lines.Appended name n) d.lines → AppendTold s d.sends name n
 
@@ -153,9 +154,9 @@ module _ (c : Config) (s : State) (e : Event) (fine : (name : List ℕ) (q : Seq
 
   append_cases : Cases c s e (λ d m. Told d)
   append_cases = record {
-    still = λ f i. others OfNodes _ (λ h. cc) (none_of OfNodes);
+    still = λ f older i. others OfNodes _ (λ h. cc) (none_of OfNodes);
     says = λ x q. quiets _ (quiet_one x q);
-    node_hears = λ f n m i t v o. handled f (Step.releases (node_at s n) m.log m.body) n m (Step.node_handles n (node_at s n) m).op (Step.node_handles n (node_at s n) m).answer;
+    node_hears = λ f older n m i t v o. handled f (Step.releases (node_at s n) m.log m.body) n m (Step.node_handles n (node_at s n) m).op (Step.node_handles n (node_at s n) m).answer;
     loads = λ n ls q a o. quiets _ q;
     draw_fails = λ n a. others OfNodes _ (λ h. cc) (one_of (lines.NodeRefusedRegister n));
     formats = λ n r g a v i. others OfNodes _ (λ h. cc) (kept_of n (Step.format_lines c n r) (keep_end (node_at (with_register (loaded s n) r) n) (ops.Format (generation_of r n) (epochs_in r.logs))) (format_of c n r));
@@ -165,15 +166,15 @@ module _ (c : Config) (s : State) (e : Event) (fine : (name : List ℕ) (q : Seq
     faults = λ n f o. others OfNodes _ (λ h. cc) (none_of OfNodes);
     sets = λ l r x set h. others OfSets _ (λ q. cc) (one_of (lines.Set l r x set));
     arms = λ k done o. others OfNodes _ (λ h. cc) (none_of OfNodes);
-    hears = λ f name q m i t l v o. others OfActs _ (λ h. cc) (acted_of name q (called (looks_at c s.register q.log) s.register (on_reply (looks_at c s.register q.log) q (Step.sender_node m.from) m.body) (on_reply (looks_at c s.register q.log) q (Step.sender_node m.from) m.body).tries).acts);
-    retries = λ name q v o. others OfActs _ (λ h. cc) (acted_of name q (called (looks_at c s.register q.log) s.register (on_retry (looks_at c s.register q.log) q) (on_retry (looks_at c s.register q.log) q).tries).acts);
+    hears = λ f older name q m i t l v o. others OfActs _ (λ h. cc) (acted_of name q (called (looks_at c s.register q.log) s.register (on_reply (looks_at c s.register q.log) q (Step.sender_node m.from) m.body) (on_reply (looks_at c s.register q.log) q (Step.sender_node m.from) m.body).tries).acts);
+    retries = λ again name q v o. others OfActs _ (λ h. cc) (acted_of name q (announced again (retry_call c s q)).acts);
     appends = λ name q p v a i. appends name q p v;
     trims = λ name q t v a. others OfTrims _ (λ h. cc) (one_of (lines.Trimmed name t));
     drops = λ name q v o. others OfNodes _ (λ h. cc) (none_of OfNodes);
     activates = λ name l r g n i x. activated name l r;
     swaps = λ n m l x r q i. quiets _ (quiet_one x q);
     activate_fails = λ name l x g q. quiets _ (quiet_one x q);
-    answers = λ f name d m i t v o. others OfItems _ (λ h. cc) (items_of _ name _ _);
+    answers = λ f older name d m i t v o. others OfItems _ (λ h. cc) (items_of _ name _ _);
     polls = λ name d v o. others OfNodes _ (λ h. cc) (none_of OfNodes);
     opens = λ style name l from until o x. others OfNodes _ (λ h. cc) (none_of OfNodes);
   }
@@ -193,18 +194,18 @@ known_log hs name n k (Some q) h w = (q.log, h.known)
 same_log : (hs : List Happened) (l k : ℕ) (name : List ℕ) → OfLog hs l name → OfLog hs k name → l ≡ k
 same_log hs l k name a b = Some_inj (sym a ∙ b)
 
-sent_step : (c : Config) → IsInBounds c → (hs : List Happened) (w : World) (e : Event) → BaseGiven c hs w × Along c hs w → SetsFine w.state → AllSent hs w → AllSent (hs ++ happened c w.state e ∷ []) (next_world c w e)
+sent_step : (c : Config) → IsInBounds c → (hs : List Happened) (w : World) (e : Move) → BaseGiven c hs w × Along c hs w → SetsFine w.state → AllSent hs w → AllSent (hs ++ step_happened c w.state e ∷ []) (after_step c w e)
 unfolding Told
-sent_step c b hs w e B A S l n k name x o = elim (writes_cases hs (happened c w.state e) k _ x) [
+sent_step c b hs w e B A S l n k name x o = elim (writes_cases hs (step_happened c w.state e) k _ x) [
   | inl a ↦
       let z = known_log hs name n k (find_named name w.state.sequencers) (B.0.0.0.1.counted name) a in
-      let q : z.0 ≡ l = same_log (hs ++ happened c w.state e ∷ []) z.0 l name (of_log_grows hs w.state.register e (Step.happens c w.state e) z.0 name z.1) o in
+      let q : z.0 ≡ l = same_log (hs ++ step_happened c w.state e ∷ []) z.0 l name (of_log_grows hs w.state.register e (Calm.moves c w.state e) z.0 name z.1) o in
       sent_later w.state.network.sent _ l n (into_after c hs w e B.0.0 B.0.1 B.1) (S l n k name a (subst (λ y. OfLog hs y name) q z.1))
   | inr a ↦
-      let t = dispatch c w.state e (λ d m. Told c w.state e fine small d) B.0.0.0.0 (append_cases c w.state e fine small) name n (line_of (Step.happens c w.state e) (lines.Appended name n) (λ h. cc) a.1) in
+      let t = dispatch c w.state e (λ d m. Told c w.state e fine small d) B.0.0.0.0 (append_cases c w.state e fine small) name n (line_of (Calm.moves c w.state e) (lines.Appended name n) (λ h. cc) a.1) in
       let z = (counts_of c hs w B.0.0 name t.sequencer t.named).known in
-      let q : t.sequencer.log ≡ l = same_log (hs ++ happened c w.state e ∷ []) t.sequencer.log l name (of_log_grows hs w.state.register e (Step.happens c w.state e) t.sequencer.log name z) o in
-      subst (λ y. StoreSent (finish (Step.happens c w.state e)).state.network.sent y n) q (sent_later (Step.happens c w.state e).sends _ t.sequencer.log n (sent_now (Step.happens c w.state e)) t.sent)
+      let q : t.sequencer.log ≡ l = same_log (hs ++ step_happened c w.state e ∷ []) t.sequencer.log l name (of_log_grows hs w.state.register e (Calm.moves c w.state e) t.sequencer.log name z) o in
+      subst (λ y. StoreSent (finish (Calm.moves c w.state e)).state.network.sent y n) q (sent_later (Calm.moves c w.state e).sends _ t.sequencer.log n (sent_now (Calm.moves c w.state e)) t.sent)
 ] where
   fine : (name : List ℕ) (q : Sequencer) → find_named name w.state.sequencers ≡ Some q → SpecFine q.spec
   fine name q f = let k = B.1.acks name q f in subst SpecFine (sym k.spec) (fixed_fine c b w.state.register q.log q.epoch A.1 k.kept k.reached)

@@ -11,11 +11,11 @@ use Rattle.ld_msg.specs.declared.msg.Body.TheVariants as bodies
 use Rattle.ld_msg.specs.Sequencer.{Recovery, Stage, Seals, Stores, Closes}
 use Rattle.ld_op.specs.Plain.{Log}
 use Rattle.ld_machine.specs.State.{State}
-use Rattle.ld_schedule.specs.declared.event.Event.{Event}
 use Rattle.ld_config.specs.declared.config.Config.{Config}
 use Rattle.ld_safety.proofs.Carried as carried
 use Rattle.ld_safety.proofs.CarriedSteps.{Carries}
 use Rattle.ld_safety.proofs.Has as has
+use Rattle.ld_machine.specs.Calm.{Move}
 
 module _ (E : ℕ → ℕ → ℕ → What → Type 0) (T : ℕ → ℕ → Type 0) (Y : ℕ → ℕ → Summary → Type 0) (O : ℕ → ℕ → Type 0) (V : ℕ → Bool → Entry → Type 0) (W : ℕ → ℕ → Type 0) (R : ℕ → ℕ → ℕ → What → Type 0) (G : ℕ → ℕ → ℕ → Type 0) (E₂ : ℕ → ℕ → ℕ → What → Type 0) (T₂ : ℕ → ℕ → Type 0) (Y₂ : ℕ → ℕ → Summary → Type 0) (O₂ : ℕ → ℕ → Type 0) (V₂ : ℕ → Bool → Entry → Type 0) (W₂ : ℕ → ℕ → Type 0) (R₂ : ℕ → ℕ → ℕ → What → Type 0) (G₂ : ℕ → ℕ → ℕ → Type 0)
     (e : (l b n : ℕ) (w : What) → E l b n w → E₂ l b n w) (t : (l k : ℕ) → T l k → T₂ l k) (y : (l k : ℕ) (z : Summary) → Y l k z → Y₂ l k z) (o : (l k : ℕ) → O l k → O₂ l k) (v : (l : ℕ) (b : Bool) (x : Entry) → V l b x → V₂ l b x) (w : (l k : ℕ) → W l k → W₂ l k) (x : (l b n : ℕ) (w : What) → R l b n w → R₂ l b n w) (g : (l e k : ℕ) → G l e k → G₂ l e k) where
@@ -59,7 +59,7 @@ module _ (E : ℕ → ℕ → ℕ → What → Type 0) (T : ℕ → ℕ → Type
   recovery_grows l b None h = tt
   recovery_grows l b (Some v) h = ((h.0.0, h.0.1, o l v.epoch h.0.2), stage_grows l b v.epoch v.stage h.1)
 
-  pub carries_grow : (c : Config) (s : State) (q : Event) (u : State) → Carries c s q E T Y O V W R G u → Carries c s q E₂ T₂ Y₂ O₂ V₂ W₂ R₂ G₂ u
+  pub carries_grow : (c : Config) (s : State) (q : Move) (u : State) → Carries c s q E T Y O V W R G u → Carries c s q E₂ T₂ Y₂ O₂ V₂ W₂ R₂ G₂ u
   carries_grow c s q u h = has.weaker _ _ _ _ _ _ (λ y p. carried.PlainOk E₂ T₂ Y₂ O₂ V₂ W₂ R₂ G₂ p) (λ y l r. W₂ l r) (carried.MsgOk E₂ T₂ Y₂ O₂ V₂ W₂ R₂ G₂) (carried.SequencerOk E₂ T₂ Y₂ O₂ V₂ W₂ R₂ G₂) (carried.ReaderOk E₂ T₂ Y₂ O₂ V₂ W₂ R₂ G₂) (carried.RegisterOk E₂ T₂ Y₂ O₂ V₂ W₂ R₂ G₂)
       (λ y p z l. log_grows l _ (z l)) (λ y l k z. w l k z) (λ m z. (body_grows m.log m.from m.body z.0, z.1)) (λ s q z. record { appends = λ p i. e q.log q.epoch p.0 (Rec p.1.payload) (z.appends p i); recovery = recovery_grows q.log q.epoch q.recovery z.recovery })
       (λ s d z k i. held_grows d.log k.1.body (z k i)) (λ r o l k z f. y l k z (o l k z f)) u h

@@ -1,5 +1,5 @@
 -- What a sequencer keeps and sends carries only what it was given, what it appended and what it planned.
-use Rattle.std.proofs.Common.{◌≡◌, ◌∙◌, ◌<◌, ℕ, ◌+◌, max, inl, inr, refl, ap, sym, subst, Bool, true, false, if◌then◌else◌, nat_lt, nat_le, ◌&&◌, ◌==◌, List, [], ◌∷◌, ◌++◌, ◌⊎◌, Some, None, arith}
+use Rattle.std.proofs.Common.{is_some, ◌≡◌, ◌∙◌, ◌<◌, ℕ, ◌+◌, max, inl, inr, refl, ap, sym, subst, Bool, true, false, if◌then◌else◌, nat_lt, nat_le, ◌&&◌, ◌==◌, List, [], ◌∷◌, ◌++◌, ◌⊎◌, Some, None, arith}
 use Rattle.std.proofs.lemmas.Bool.{and_parts, eqb-true, ltb-true, leb-false}
 use Rattle.ld_table.specs.Table.{find, put}
 use Rattle.ld_table.specs.Words.{without}
@@ -26,6 +26,7 @@ use Rattle.ld_safety.proofs.Members.{find_in, In_put}
 use Rattle.ld_safety.proofs.Acks.{raised_in}
 use Rattle.ld_safety.proofs.SequencerSteps.{Closing, Acting, Retrying, Hearing, heard_page, heard_lost, Hearing_stored, heard_settled, heard_gone, Ending, ends_again, ends_ready, ending_of, is_short, retry_acts, acts_with}
 use Rattle.ld_safety.proofs.Carried as carried
+use Rattle.ld_safety.proofs.Events.{announced}
 
 module _ (E : ℕ → ℕ → ℕ → What → Type 0) (T : ℕ → ℕ → Type 0) (Y : ℕ → ℕ → Summary → Type 0) (O : ℕ → ℕ → Type 0) (V : ℕ → Bool → Entry → Type 0) (W : ℕ → ℕ → Type 0) (R : ℕ → ℕ → ℕ → What → Type 0) (G : ℕ → ℕ → ℕ → Type 0) (K : carried.Sound E T Y O V W R G) where
   pub record BodiesOk (l b : ℕ) (bs : List (ℕ × Body)) : Type 0 where
@@ -214,6 +215,15 @@ module _ (E : ℕ → ℕ → ℕ → What → Type 0) (T : ℕ → ℕ → Type
 
   release_ok : (l b : ℕ) (old new : Sequencer) → W l (released_of new) → BodiesOk l b (release_messages old new)
   release_ok l b old new h = if_ok l b _ _ _ (each_ok l b _ _ h) (none_ok l b)
+
+  -- and where the released number is told again
+  pub again_ok : (name : List ℕ) (q : Sequencer) (again : Bool) (k : Called) → W q.log (released_of k.acts.sequencer) → CalledOk name q k → CalledOk name q (announced again k)
+  again_ok name q again k r h = record {
+    sequencer = h.sequencer;
+    cleans = h.cleans;
+    asks = both_ok q.log q.epoch _ _ (if_ok q.log q.epoch again _ _ (if_ok q.log q.epoch (is_some k.acts.sequencer.preempted) _ _ (none_ok q.log q.epoch) (each_ok q.log q.epoch _ _ r)) (none_ok q.log q.epoch)) h.asks;
+    stores = h.stores;
+  }
 
   pub messages_ok : (name : List ℕ) (q : Sequencer) (k : Called) → CalledOk name q k → W q.log (released_of k.acts.sequencer) → BodiesOk q.log q.epoch (acted_messages q k.acts)
   messages_ok name q k h r = both_ok q.log q.epoch _ _ h.cleans (both_ok q.log q.epoch _ _ (release_ok q.log q.epoch q k.acts.sequencer r) (both_ok q.log q.epoch _ _ h.asks h.stores))

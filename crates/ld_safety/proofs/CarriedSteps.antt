@@ -6,7 +6,6 @@ use Rattle.ld_table.specs.Named.{find_named, put_named}
 use Rattle.ld_table.proofs.Laws.{find-put_same}
 use Rattle.ld_lsn.specs.Number.{epoch_of, numbered, last_esn}
 use Rattle.ld_config.specs.declared.config.Config.{Config}
-use Rattle.ld_schedule.specs.declared.event.Event.{Event}
 use Rattle.ld_transcript.specs.declared.line.Line.{Line}
 use Rattle.ld_transcript.specs.declared.line.Line.TheVariants as lines
 use Rattle.ld_msg.specs.declared.msg.What.{What}
@@ -26,7 +25,7 @@ use Rattle.ld_machine.specs.Config.{all_nodes, first_spec, looks_at}
 use Rattle.ld_msg.specs.Register.{Register, View, Granted, epochs_of, generation_of, epochs_in, lce_of, close}
 use Rattle.ld_machine.specs.Disk.{Node, new_node, load}
 use Rattle.ld_msg.specs.Digest.{Told, plan, Item}
-use Rattle.ld_msg.specs.Sequencer.{Sequencer, Acts, Recovery, Numbered, appending, appended, next_esn, first_stores, released_of, on_reply, on_retry, to_each, activated, recovery_asks, Append, fresh_append, called, acted_messages}
+use Rattle.ld_msg.specs.Sequencer.{Called, Sequencer, Recovery, Numbered, appending, appended, next_esn, first_stores, released_of, on_reply, on_retry, to_each, activated, recovery_asks, Append, fresh_append, called, acted_messages}
 use Rattle.ld_msg.specs.Choice.{choice}
 use Rattle.ld_msg.specs.Reading.{Held, lost_held, within}
 use Rattle.ld_msg.specs.Reader.{Reader, Read, heard, polled, opened, held_with, is_newer, round_of, on_answer, poll_asks, start_asks, seen_nodes}
@@ -39,7 +38,7 @@ use Rattle.ld_table.proofs.NameLaws.{same-self}
 use Rattle.ld_op.specs.Answers.{on_release}
 use Rattle.std.proofs.lemmas.Bool.{cases_order}
 use Rattle.ld_safety.proofs.Members.{In_put}
-use Rattle.ld_safety.proofs.Events.{NamesOnce, Cases, dispatch, Live, Reading, Serves, refreshed, loaded, with_spec}
+use Rattle.ld_safety.proofs.Events.{retry_call, announced, NamesOnce, Cases, dispatch, Live, Reading, Serves, refreshed, loaded, with_spec}
 use Rattle.ld_safety.proofs.SequencerSteps.{same_sender, Ending, gone_of, replied, retried}
 use Rattle.ld_safety.proofs.RegisterSteps.{shown_closed}
 use Rattle.ld_safety.proofs.ReaderSteps.{dropped_held, ReadKeeps, answered, IsAskOf, start_are, confirm_are}
@@ -50,6 +49,8 @@ use Rattle.ld_safety.proofs.CarriedSequencers as sequencers
 use Rattle.ld_safety.proofs.Has as has
 use Rattle.ld_machine.specs.Facts.{AsksToAppend}
 use Rattle.ld_msg.specs.declared.style.Style.{Style}
+use Rattle.ld_machine.specs.Calm as Calm
+use Rattle.ld_machine.specs.Calm.{Move, event_of}
 
 -- a message that a sequencer heard
 pub record HeardOf (s : State) (q : Sequencer) (y : ℕ) (b : Body) : Type 0 where
@@ -60,7 +61,7 @@ pub record HeardOf (s : State) (q : Sequencer) (y : ℕ) (b : Body) : Type 0 whe
   pub from : Step.sender_node message.from ≡ y
   pub body : message.body ≡ b
 
-module _ (c : Config) (s : State) (e : Event) (E : ℕ → ℕ → ℕ → What → Type 0) (T : ℕ → ℕ → Type 0) (Y : ℕ → ℕ → Summary → Type 0) (O : ℕ → ℕ → Type 0) (V : ℕ → Bool → Entry → Type 0) (W : ℕ → ℕ → Type 0) (R : ℕ → ℕ → ℕ → What → Type 0) (G : ℕ → ℕ → ℕ → Type 0) where
+module _ (c : Config) (s : State) (e : Move) (E : ℕ → ℕ → ℕ → What → Type 0) (T : ℕ → ℕ → Type 0) (Y : ℕ → ℕ → Summary → Type 0) (O : ℕ → ℕ → Type 0) (V : ℕ → Bool → Entry → Type 0) (W : ℕ → ℕ → Type 0) (R : ℕ → ℕ → ℕ → What → Type 0) (G : ℕ → ℕ → ℕ → Type 0) where
   abbrev pub Carries : State → Type 0
   Carries t = has.Has (λ y p. carried.PlainOk E T Y O V W R G p) (λ y l r. W l r) (carried.MsgOk E T Y O V W R G) (carried.SequencerOk E T Y O V W R G) (carried.ReaderOk E T Y O V W R G) (carried.RegisterOk E T Y O V W R G) t
 
@@ -69,32 +70,32 @@ module _ (c : Config) (s : State) (e : Event) (E : ℕ → ℕ → ℕ → What 
     pub sound : carried.Sound E T Y O V W R G
     pub before : Carries s
     pub apart : Apart s.network.sent s.readers
-    pub register : carried.RegisterOk E T Y O V W R G (Step.happens c s e).state.register
+    pub register : carried.RegisterOk E T Y O V W R G (Calm.moves c s e).state.register
     pub epochs : (name : List ℕ) (q : Sequencer) → find_named name s.sequencers ≡ Some q → (k : ℕ) → 0 < k → k < q.epoch → O q.log k
-    pub new_epochs : (l : ℕ) (r : Register) → (Step.happens c s e).state.register ≡ r → (k : ℕ) → 0 < k → k < (epochs_of r l).epoch → O l k
-    pub append : (name : List ℕ) (q : Sequencer) (payload : List ℕ) → Live s name q → appending q payload ≡ Numbered → AsksToAppend name payload e → In (lines.Appended name (numbered q.epoch (next_esn q))) (Step.happens c s e).lines → E q.log q.epoch (numbered q.epoch (next_esn q)) (Rec payload)
-    pub trim : (name : List ℕ) (q : Sequencer) (point : ℕ) → Live s name q → point ≤ released_of q → In (lines.Trimmed name point) (Step.happens c s e).lines → T q.log point
+    pub new_epochs : (l : ℕ) (r : Register) → (Calm.moves c s e).state.register ≡ r → (k : ℕ) → 0 < k → k < (epochs_of r l).epoch → O l k
+    pub append : (name : List ℕ) (q : Sequencer) (payload : List ℕ) → Live s name q → appending q payload ≡ Numbered → AsksToAppend name payload (event_of e) → In (lines.Appended name (numbered q.epoch (next_esn q))) (Calm.moves c s e).lines → E q.log q.epoch (numbered q.epoch (next_esn q)) (Rec payload)
+    pub trim : (name : List ℕ) (q : Sequencer) (point : ℕ) → Live s name q → point ≤ released_of q → In (lines.Trimmed name point) (Calm.moves c s e).lines → T q.log point
     pub planned : (name : List ℕ) (q : Sequencer) (v : Recovery) (d : List Told) (loss : Bool) (gone : List ℕ) → Live s name q → q.recovery ≡ Some v → sequencers.DigestOk E T Y O V W R G sound q.log v.epoch d
-        → made_on c s e ≡ record { log = q.log; epoch = v.epoch; ballot = q.epoch; loss = loss; digest = d; gone = gone } ∷ []
+        → made_on c s (event_of e) ≡ record { log = q.log; epoch = v.epoch; ballot = q.epoch; loss = loss; digest = d; gone = gone } ∷ []
         → (i : Item) → In i (plan v.epoch loss d).items → E q.log q.epoch i.number i.what × (epoch_of i.number ≡ v.epoch)
     pub closed : (name : List ℕ) (q : Sequencer) (v : Recovery) (y : Summary) (short : Bool) → Live s name q → q.recovery ≡ Some v → Ending q (HeardOf s q) v y short → lce_of s.register q.log + 1 ≡ v.epoch
-        → close s.register q.log v.epoch y short ≡ record { register = (Step.happens c s e).state.register; answer = Granted } → Y q.log v.epoch y
+        → close s.register q.log v.epoch y short ≡ record { register = (Calm.moves c s e).state.register; answer = Granted } → Y q.log v.epoch y
     pub refill : (n : ℕ) (m : Msg) (round from upto : ℕ) (es : List Entry) → In m s.network.sent → m.to ≡ whos.Node n → Serves c s n m.log → m.body ≡ bodies.ReadPage round from upto true es → (log_of (node_at s n).plain m.log).lost ≡ true
         → nodes.RefillOk E T Y O V W R G sound m.log (log_of (node_at s n).plain m.log) es
     pub shows : (n l : ℕ) → Serves c s n l → nodes.Shows E T Y O V W R G sound l (log_of (node_at s n).plain l) (Step.released_at (node_at s n) l)
     pub good : (name : List ℕ) (q : Sequencer) → find_named name s.sequencers ≡ Some q → G q.log q.epoch q.lng
     pub own : (name : List ℕ) (q : Sequencer) → find_named name s.sequencers ≡ Some q → (p : ℕ × Append) → In p q.appends → epoch_of p.0 ≡ q.epoch
     pub small : (name : List ℕ) (q : Sequencer) → find_named name s.sequencers ≡ Some q → next_esn q ≤ last_esn
-    pub released : (name : List ℕ) (q p : Sequencer) → Live s name q → find_named name (Step.happens c s e).state.sequencers ≡ Some p → W q.log (released_of p)
+    pub released : (name : List ℕ) (q p : Sequencer) → Live s name q → find_named name (Calm.moves c s e).state.sequencers ≡ Some p → W q.log (released_of p)
 
   module _ (N : NamesOnce s) (K : Sources) where
     abbrev Result : Done → List Made → Type 0
-    Result d m = Step.happens c s e ≡ d → made_on c s e ≡ m → Carries (finish d).state
+    Result d m = Calm.moves c s e ≡ d → made_on c s (event_of e) ≡ m → Carries (finish d).state
 
     quiet_has : (t : State) (ls : List Line) → Carries t → Carries (finish (record { state = t; lines = ls; sends = [] })).state
     quiet_has t ls h = has.finish_has _ _ _ _ _ _ (record { state = t; lines = ls; sends = [] }) h (λ m i. absurd i)
 
-    to_register : (d : Done) → Step.happens c s e ≡ d → carried.RegisterOk E T Y O V W R G d.state.register
+    to_register : (d : Done) → Calm.moves c s e ≡ d → carried.RegisterOk E T Y O V W R G d.state.register
     to_register d w = subst (λ (x : Done). carried.RegisterOk E T Y O V W R G x.state.register) w K.register
 
     posted_ok : (who : Who) → (carried.NodeWho E T Y O V W R G who → ⊥) → (l : ℕ) (bs : List (ℕ × Body)) → ((b : ℕ × Body) → In b bs → carried.BodyOk E T Y O V W R G l who b.1) → (m : Msg) → In m (posted who l bs) → carried.MsgOk E T Y O V W R G m
@@ -169,14 +170,14 @@ module _ (c : Config) (s : State) (e : Event) (E : ℕ → ℕ → ℕ → What 
     put_here : (name : List ℕ) (p : Sequencer) → find_named name (put_named name p s.sequencers) ≡ Some p
     put_here name p = elim (named_cases name name p s.sequencers) [ inl a ↦ a.1 | inr a ↦ absurd (let z = same-self name in not_both _ z a.0) ]
 
-    acted : (f : List ℕ) (name : List ℕ) (q : Sequencer) (a : Acts) → Live s name q → Step.happens c s e ≡ Step.acted c (refreshed s f) name q a → sequencers.CalledOk E T Y O V W R G K.sound name q (called (looks_at c s.register q.log) s.register a a.tries) → Carries (finish (Step.acted c (refreshed s f) name q a)).state
-    acted f name q a v w h = has.finish_has _ _ _ _ _ _ (Step.acted c (refreshed s f) name q a)
-        (has.register_has _ _ _ _ _ _ (with_sequencer (refreshed s f) name (called (looks_at c s.register q.log) s.register a a.tries).acts.sequencer) (called (looks_at c s.register q.log) s.register a a.tries).register (has.sequencer_has _ _ _ _ _ _ (refreshed s f) name (called (looks_at c s.register q.log) s.register a a.tries).acts.sequencer K.before h.sequencer) (to_register (Step.acted c (refreshed s f) name q a) w))
-        (posted_ok (whos.Sequencer q.epoch) (λ h. h) q.log (acted_messages q (called (looks_at c s.register q.log) s.register a a.tries).acts) (λ b i. (sequencers.messages_ok E T Y O V W R G K.sound name q (called (looks_at c s.register q.log) s.register a a.tries) h (K.released name q (called (looks_at c s.register q.log) s.register a a.tries).acts.sequencer v (ap (λ (d : Done). find_named name d.state.sequencers) w ∙ put_here name _))).each b i))
+    acted : (again : Bool) (f : List ℕ) (name : List ℕ) (q : Sequencer) (call : Called) → Live s name q → Calm.moves c s e ≡ Step.told (refreshed s f) name q (announced again call) → sequencers.CalledOk E T Y O V W R G K.sound name q call → Carries (finish (Step.told (refreshed s f) name q (announced again call))).state
+    acted again f name q call v w h = has.finish_has _ _ _ _ _ _ (Step.told (refreshed s f) name q (announced again call))
+        (has.register_has _ _ _ _ _ _ (with_sequencer (refreshed s f) name call.acts.sequencer) call.register (has.sequencer_has _ _ _ _ _ _ (refreshed s f) name call.acts.sequencer K.before h.sequencer) (to_register (Step.told (refreshed s f) name q (announced again call)) w))
+        (posted_ok (whos.Sequencer q.epoch) (λ h. h) q.log (acted_messages q (announced again call).acts) (λ b i. let r = K.released name q call.acts.sequencer v (ap (λ (d : Done). find_named name d.state.sequencers) w ∙ put_here name _) in (sequencers.messages_ok E T Y O V W R G K.sound name q (announced again call) (sequencers.again_ok E T Y O V W R G K.sound name q again call r h) r).each b i))
 
-    closing : (f : List ℕ) (name : List ℕ) (q : Sequencer) (a : Acts) → Live s name q → Step.happens c s e ≡ Step.acted c (refreshed s f) name q a → (v : Recovery) (y : Summary) (short : Bool) (n : Register) → q.recovery ≡ Some v → Ending q (HeardOf s q) v y short → lce_of s.register q.log + 1 ≡ v.epoch
-        → close s.register q.log v.epoch y short ≡ record { register = n; answer = Granted } → (called (looks_at c s.register q.log) s.register a a.tries).register ≡ n → Y q.log v.epoch y
-    closing f name q a l w v y short n r d k g z = K.closed name q v y short l r d k (g ∙ ap (λ (x : Register). record { register = x; answer = Granted }) (sym z ∙ sym (ap (λ (x : Done). x.state.register) w)))
+    closing : (again : Bool) (f : List ℕ) (name : List ℕ) (q : Sequencer) (call : Called) → Live s name q → Calm.moves c s e ≡ Step.told (refreshed s f) name q (announced again call) → (v : Recovery) (y : Summary) (short : Bool) (n : Register) → q.recovery ≡ Some v → Ending q (HeardOf s q) v y short → lce_of s.register q.log + 1 ≡ v.epoch
+        → close s.register q.log v.epoch y short ≡ record { register = n; answer = Granted } → call.register ≡ n → Y q.log v.epoch y
+    closing again f name q call l w v y short n r d k g z = K.closed name q v y short l r d k (g ∙ ap (λ (x : Register). record { register = x; answer = Granted }) (sym z ∙ sym (ap (λ (x : Done). x.state.register) w)))
 
     shown_here : (l k : ℕ) (y : Summary) → (looks_at c s.register l k).summary ≡ Some y → Y l k y
     shown_here l k y h = K.before.register l k y (shown_closed (first_spec c l) s.register l k y h)
@@ -188,19 +189,19 @@ module _ (c : Config) (s : State) (e : Event) (E : ℕ → ℕ → ℕ → What 
         let a = on_reply (looks_at c s.register q.log) q y m.body in
         let call = called (looks_at c s.register q.log) s.register a a.tries in
         let h : HeardOf s q y m.body = record { message = m; sent = i; to = t; log = l; from = refl; body = refl } in
-        let ok = sequencers.acting_ok E T Y O V W R G K.sound name q s.register call (made_on c s e) (K.epochs name q v.named) (K.good name q v.named) (K.own name q v.named) c (HeardOf s q) (gone_of s q) (K.before.sequencers name q v.named) (closing f name q a v w) (shown_here q.log)
+        let ok = sequencers.acting_ok E T Y O V W R G K.sound name q s.register call (made_on c s (event_of e)) (K.epochs name q v.named) (K.good name q v.named) (K.own name q v.named) c (HeardOf s q) (gone_of s q) (K.before.sequencers name q v.named) (closing false f name q call v w) (shown_here q.log)
         (λ r d loss g k D it. K.planned name q r d loss g v k D it) y m.body h (subst (λ k. carried.ReplyOk E T Y O V W R G k m.body) l (carried.reply_of E T Y O V W R G m.log m.from m.body (K.before.sent m i).0)) in
-        acted f name q a v w (replied c s name q v.there y m.body (λ k n. call ≡ k → made_on c s e ≡ n → sequencers.CalledOk E T Y O V W R G K.sound name q k) ok refl (x ∙ ap (λ p. made_by c s (Some (name, q)) p m.body) (same_sender m.from)))
+        acted false f name q call v w (replied c s name q v.there y m.body (λ k n. call ≡ k → made_on c s (event_of e) ≡ n → sequencers.CalledOk E T Y O V W R G K.sound name q k) ok refl (x ∙ ap (λ p. made_by c s (Some (name, q)) p m.body) (same_sender m.from)))
 
-    retries : (name : List ℕ) (q : Sequencer) → Live s name q → Result (Step.acted c s name q (on_retry (looks_at c s.register q.log) q)) (made_retried c s (Some q))
-    retries name q v w x =
+    retries : (again : Bool) (name : List ℕ) (q : Sequencer) → Live s name q → Result (Step.told s name q (announced again (retry_call c s q))) (made_retried c s (Some q))
+    retries again name q v w x =
         let a = on_retry (looks_at c s.register q.log) q in
         let call = called (looks_at c s.register q.log) s.register a a.tries in
-        let ok = sequencers.retrying_ok E T Y O V W R G K.sound name q s.register call (made_on c s e) (K.epochs name q v.named) (K.good name q v.named) (K.own name q v.named) c (HeardOf s q) (gone_of s q) (K.before.sequencers name q v.named) (closing s.network.fresh name q a v w) (shown_here q.log)
+        let ok = sequencers.retrying_ok E T Y O V W R G K.sound name q s.register call (made_on c s (event_of e)) (K.epochs name q v.named) (K.good name q v.named) (K.own name q v.named) c (HeardOf s q) (gone_of s q) (K.before.sequencers name q v.named) (closing again s.network.fresh name q call v w) (shown_here q.log)
         (λ r d loss g k D it. K.planned name q r d loss g v k D it) in
-        acted s.network.fresh name q a v w (retried c s q v.there (λ k n. call ≡ k → made_on c s e ≡ n → sequencers.CalledOk E T Y O V W R G K.sound name q k) ok refl x)
+        acted again s.network.fresh name q call v w (retried c s q v.there (λ k n. call ≡ k → made_on c s (event_of e) ≡ n → sequencers.CalledOk E T Y O V W R G K.sound name q k) ok refl x)
 
-    appends : (name : List ℕ) (q : Sequencer) (payload : List ℕ) → Live s name q → appending q payload ≡ Numbered → AsksToAppend name payload e → Result (Step.append_done s name q payload Numbered) []
+    appends : (name : List ℕ) (q : Sequencer) (payload : List ℕ) → Live s name q → appending q payload ≡ Numbered → AsksToAppend name payload (event_of e) → Result (Step.append_done s name q payload Numbered) []
     appends name q payload v a i w x =
         let o = K.before.sequencers name q v.named in let n = K.append name q payload v a i (subst (λ (d : Done). In (lines.Appended name (numbered q.epoch (next_esn q))) d.lines) (sym w) (inl refl)) in
         has.finish_has _ _ _ _ _ _ (Step.append_done s name q payload Numbered)
@@ -220,16 +221,16 @@ module _ (c : Config) (s : State) (e : Event) (E : ℕ → ℕ → ℕ → What 
     drops : (name : List ℕ) (q : Sequencer) → Live s name q → Carries (finish (only_state (with_sequencer s name (Step.dropped q)))).state
     drops name q v = let o = K.before.sequencers name q v.named in quiet_has _ [] (has.sequencer_has _ _ _ _ _ _ s name (Step.dropped q) K.before (record { appends = o.appends; recovery = o.recovery }))
 
-    unactivated : (l n : ℕ) (r : Register) → (Step.happens c s e).state.register ≡ r → (k : ℕ) → 0 < k → k < (activated (looks_at c r l) (Step.spec_set c s l) l (epochs_of r l).epoch (lce_of r l)).epoch → O l k
+    unactivated : (l n : ℕ) (r : Register) → (Calm.moves c s e).state.register ≡ r → (k : ℕ) → 0 < k → k < (activated (looks_at c r l) (Step.spec_set c s l) l (epochs_of r l).epoch (lce_of r l)).epoch → O l k
     unfolding activated
     unactivated l n r i k u v = K.new_epochs l r i k u v
 
-    activates : (name : List ℕ) (l : ℕ) (r : Register) → (Step.happens c s e).state.register ≡ r → Result (Step.activated_as c s name l r (epochs_of r l).epoch (lce_of r l)) []
+    activates : (name : List ℕ) (l : ℕ) (r : Register) → (Calm.moves c s e).state.register ≡ r → Result (Step.activated_as c s name l r (epochs_of r l).epoch (lce_of r l)) []
     activates name l r i w x = let n = (epochs_of r l).epoch in let d : Done = Step.activated_as c s name l r n (lce_of r l) in
         has.finish_has _ _ _ _ _ _ d (has.register_has _ _ _ _ _ _ (with_sequencer s name (activated (looks_at c r l) (Step.spec_set c s l) l n (lce_of r l))) r (has.sequencer_has _ _ _ _ _ _ s name (activated (looks_at c r l) (Step.spec_set c s l) l n (lce_of r l)) K.before (sequencers.activated_ok E T Y O V W R G K.sound name c r (Step.spec_set c s l) l n (lce_of r l) (K.new_epochs l r i))) (to_register d w))
         (posted_ok (whos.Sequencer n) (λ h. h) l (recovery_asks (looks_at c r l) (activated (looks_at c r l) (Step.spec_set c s l) l n (lce_of r l)) (lce_of r l)) (λ b j. (sequencers.begin_asks_ok E T Y O V W R G K.sound l n (looks_at c r l) (activated (looks_at c r l) (Step.spec_set c s l) l n (lce_of r l)) (lce_of r l) (unactivated l n r i)).each b j))
 
-    register_only : (t : State) (r : Register) (ls : List Line) → Carries t → Step.happens c s e ≡ record { state = with_register t r; lines = ls; sends = [] } → Carries (finish (record { state = with_register t r; lines = ls; sends = [] })).state
+    register_only : (t : State) (r : Register) (ls : List Line) → Carries t → Calm.moves c s e ≡ record { state = with_register t r; lines = ls; sends = [] } → Carries (finish (record { state = with_register t r; lines = ls; sends = [] })).state
     register_only t r ls h w = quiet_has (with_register t r) ls (has.register_has _ _ _ _ _ _ t r h (to_register (record { state = with_register t r; lines = ls; sends = [] }) w))
 
     -- ---- readers ----
@@ -297,9 +298,9 @@ module _ (c : Config) (s : State) (e : Event) (E : ℕ → ℕ → ℕ → What 
 
     carry_cases : Cases c s e Result
     carry_cases = record {
-      still = λ f i w x. has.quiet_has _ _ _ _ _ _ s f [] K.before;
+      still = λ f older i w x. has.quiet_has _ _ _ _ _ _ s f [] K.before;
       says = λ y q w x. quiet_has s (y ∷ []) K.before;
-      node_hears = λ f n m i t v o w x. hears f n m i t v;
+      node_hears = λ f older n m i t v o w x. hears f n m i t v;
       loads = λ n ls q b o w x. quiet_has (loaded s n) ls (loaded_has n);
       draw_fails = λ n b w x. register_only (loaded s n) _ _ (loaded_has n) w;
       formats = λ n r g b v i w x. formats n r (to_register _ w);
@@ -309,18 +310,18 @@ module _ (c : Config) (s : State) (e : Event) (E : ℕ → ℕ → ℕ → What 
       faults = λ n f o w x. let h = K.before.nodes n in node_only n (Step.with_fault (node_at s n) f) [] (record { plain = h.plain; cut = h.cut; released = h.released });
       sets = λ l r y set h w x. quiet_has (with_spec s l (record { log = l; set = set; r = r; extras = y })) _ K.before;
       arms = λ k done o w x. register_only s _ [] K.before w;
-      hears = λ f name q m i t l v o w x. replies f name q m i t l v w x;
-      retries = λ name q v o w x. retries name q v w x;
+      hears = λ f older name q m i t l v o w x. replies f name q m i t l v w x;
+      retries = λ again name q v o w x. retries again name q v w x;
       appends = λ name q p v a i w x. appends name q p v a i w x;
       trims = λ name q t v b w x. trims name q t v b w x;
       drops = λ name q v o w x. drops name q v;
       activates = λ name l r g n i j w x. activates name l r (ap (λ (d : Done). d.state.register) w) w x;
       swaps = λ n m l y r q i w x. register_only s _ _ K.before w;
       activate_fails = λ name l y g q w x. register_only s _ _ K.before w;
-      answers = λ f name d m i t v o w x. reads f name d m i t v;
+      answers = λ f older name d m i t v o w x. reads f name d m i t v;
       polls = λ name d v o w x. polls name d v;
       opens = λ style name l from until o i w x. opens style name l from until;
     }
 
-    pub carried_on : Carries (finish (Step.happens c s e)).state
+    pub carried_on : Carries (finish (Calm.moves c s e)).state
     carried_on = dispatch c s e Result N carry_cases refl refl

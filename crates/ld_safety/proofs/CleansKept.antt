@@ -4,7 +4,6 @@ use Rattle.std.proofs.lemmas.Bool.{and_parts, ltb-true}
 use Rattle.ld_table.specs.Table.{find}
 use Rattle.ld_lsn.specs.Number.{epoch_of}
 use Rattle.ld_config.specs.declared.config.Config.{Config}
-use Rattle.ld_schedule.specs.declared.event.Event.{Event}
 use Rattle.ld_msg.specs.declared.msg.Entry.{Entry}
 use Rattle.ld_msg.specs.declared.msg.Summary.{Summary}
 use Rattle.ld_msg.specs.declared.msg.Msg.{Msg}
@@ -31,6 +30,7 @@ use Rattle.ld_safety.proofs.NodeCases.{NodeKeeps}
 use Rattle.ld_safety.proofs.HoldSteps.{released_parts}
 use Rattle.ld_safety.proofs.Cleans.{PlainClean, Keyed, OpClean, op_clean, blank_clean}
 use Rattle.ld_safety.proofs.Has as has
+use Rattle.ld_machine.specs.Calm.{Move}
 
 abbrev pub AnyReleased : ℕ → ℕ → ℕ → Type 0
 AnyReleased y l r = Unit {0}
@@ -138,7 +138,7 @@ module _ (p : Plain) (l : ℕ) where
   message_clean self generation ballot released b o q = keep_clean b o q
 
 -- ---- every event ----
-module _ (c : Config) (s : State) (e : Event) (H : (y : ℕ) → NodeClean y (node_at s y)) (K : (y l : ℕ) → Keyed (log_of (node_at s y).plain l)) (L : (y l : ℕ) → Keyed (log_of (load (node_at s y)).plain l)) where
+module _ (c : Config) (s : State) (e : Move) (H : (y : ℕ) → NodeClean y (node_at s y)) (K : (y l : ℕ) → Keyed (log_of (node_at s y).plain l)) (L : (y l : ℕ) → Keyed (log_of (load (node_at s y)).plain l)) where
   any : (y l : ℕ) → AnyReleased y l 0
   any y l = tt
 

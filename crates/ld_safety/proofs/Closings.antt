@@ -4,7 +4,6 @@ use Rattle.std.specs.Option.{unwrap_or}
 use Rattle.ld_table.specs.Table.{find}
 use Rattle.ld_table.proofs.Laws.{put_cases}
 use Rattle.ld_config.specs.declared.config.Config.{Config}
-use Rattle.ld_schedule.specs.declared.event.Event.{Event}
 use Rattle.ld_msg.specs.declared.msg.Summary.{Summary}
 use Rattle.ld_msg.specs.declared.msg.Msg.{Msg}
 use Rattle.ld_msg.specs.declared.msg.Body.{Body}
@@ -21,6 +20,8 @@ use Rattle.ld_safety.proofs.Events.{NamesOnce, Cases, dispatch, Live, refreshed}
 use Rattle.ld_safety.proofs.SequencerSteps.{Closing, Acting, Retrying, Ending, ends_again, ends_ready, ending_of, gone_of, replied, retried}
 use Rattle.ld_safety.proofs.RegisterSteps.{Same, activate_leaves, close_leaves, draw_leaves, swap_leaves, epochs_put, epochs_same}
 use Rattle.ld_safety.proofs.CarriedSteps.{HeardOf}
+use Rattle.ld_machine.specs.Calm as Calm
+use Rattle.ld_machine.specs.Calm.{Move}
 
 -- what holds of each summary of a register
 abbrev pub OfSummaries : (ℕ → ℕ → Summary → Type 0) → Register → Type 0
@@ -63,7 +64,7 @@ module _ (P : ℕ → ℕ → Summary → Type 0) where
     failed = λ n j. subst (λ (d : Changed). OfSummaries P d.register) j z;
   }
 
-module _ (c : Config) (s : State) (e : Event) (P : ℕ → ℕ → Summary → Type 0) (h : OfSummaries P s.register)
+module _ (c : Config) (s : State) (e : Move) (P : ℕ → ℕ → Summary → Type 0) (h : OfSummaries P s.register)
     (closes : (name : List ℕ) (q : Sequencer) (v : Recovery) (y : Summary) (short : Bool) → Live s name q → q.recovery ≡ Some v → Ending q (HeardOf s q) v y short → lce_of s.register q.log + 1 ≡ v.epoch → is_overtaken (epochs_of s.register q.log) y short ≡ false → P q.log v.epoch y) where
   acting : (name : List ℕ) (q : Sequencer) → Live s name q → (y : ℕ) (b : Body) → HeardOf s q y b → Acting c s.register (gone_of s q) q y b (λ k m. OfSummaries P k.register)
   acting name q live y b H = record {
@@ -107,9 +108,9 @@ module _ (c : Config) (s : State) (e : Event) (P : ℕ → ℕ → Summary → T
 
   summary_cases : Cases c s e (λ d m. OfSummaries P d.state.register)
   summary_cases = record {
-    still = λ f i. h;
+    still = λ f older i. h;
     says = λ x q. h;
-    node_hears = λ f n m i t v o. handled f n m (Step.releases (node_at s n) m.log m.body) (Step.node_handles n (node_at s n) m).op (Step.node_handles n (node_at s n) m).answer;
+    node_hears = λ f older n m i t v o. handled f n m (Step.releases (node_at s n) m.log m.body) (Step.node_handles n (node_at s n) m).op (Step.node_handles n (node_at s n) m).answer;
     loads = λ n ls q b o. h;
     draw_fails = λ n b. draw_summaries P s.register n h;
     formats = λ n r g b v i. subst (λ (d : Changed). OfSummaries P d.register) i (draw_summaries P s.register n h);
@@ -119,19 +120,19 @@ module _ (c : Config) (s : State) (e : Event) (P : ℕ → ℕ → Summary → T
     faults = λ n f o. h;
     sets = λ l r x set i. h;
     arms = λ k done o. h;
-    hears = λ f name q m i t l v o. replied c s name q v.there (Step.sender_node m.from) m.body (λ k n. OfSummaries P k.register) (acting name q v (Step.sender_node m.from) m.body (record { message = m; sent = i; to = t; log = l; from = refl; body = refl }));
-    retries = λ name q v o. retried c s q v.there (λ k n. OfSummaries P k.register) (retrying name q v);
+    hears = λ f older name q m i t l v o. replied c s name q v.there (Step.sender_node m.from) m.body (λ k n. OfSummaries P k.register) (acting name q v (Step.sender_node m.from) m.body (record { message = m; sent = i; to = t; log = l; from = refl; body = refl }));
+    retries = λ again name q v o. retried c s q v.there (λ k n. OfSummaries P k.register) (retrying name q v);
     appends = λ name q p v a i. h;
     trims = λ name q t v b. h;
     drops = λ name q v o. h;
     activates = λ name l r g n i x. subst (λ (d : Changed). OfSummaries P d.register) i (activate_summaries P s.register l (Step.spec_set c s l) h);
     swaps = λ n m l x r q i. swap_summaries P s.register l _ m n h;
     activate_fails = λ name l x g q. activate_summaries P s.register l (Step.spec_set c s l) h;
-    answers = λ f name d m i t v o. h;
+    answers = λ f older name d m i t v o. h;
     polls = λ name d v o. h;
     opens = λ style name l from until o x. h;
   }
 
   -- each summary after the step
-  pub summaries_after : NamesOnce s → OfSummaries P (Step.happens c s e).state.register
+  pub summaries_after : NamesOnce s → OfSummaries P (Calm.moves c s e).state.register
   summaries_after N = dispatch c s e (λ d m. OfSummaries P d.state.register) N summary_cases

@@ -8,7 +8,6 @@ use Rattle.ld_table.specs.Table.{find}
 use Rattle.ld_table.specs.Words.{numbers_from}
 use Rattle.ld_lsn.specs.Number.{epoch_of, esn_of, numbered}
 use Rattle.ld_config.specs.declared.config.Config.{Config}
-use Rattle.ld_schedule.specs.declared.event.Event.{Event}
 use Rattle.ld_msg.specs.declared.msg.What.{What}
 use Rattle.ld_msg.specs.declared.msg.Entry.{Entry}
 use Rattle.ld_msg.specs.declared.msg.Summary.{Summary}
@@ -39,6 +38,7 @@ use Rattle.ld_safety.proofs.Cleans.{LogClean, Keyed}
 use Rattle.ld_safety.proofs.CleansKept.{AnyReleased, AnyMessage, AnySequencer, AnyReader, AnyRegister, tick_found}
 use Rattle.ld_safety.proofs.Copies.{Elsewhere, Copied, CopiesAt, KnownSettled, OpCopies, op_copies, blank_copies}
 use Rattle.ld_safety.proofs.Has as has
+use Rattle.ld_machine.specs.Calm.{Move}
 
 -- ---- a refill that ends ----
 left_nil : {X : Type 0} (xs ys : List X) → xs ++ ys ≡ [] → xs ≡ []
@@ -202,7 +202,7 @@ tick_low g closed k y h = by_found (find (lowest_unclean g) closed) h where
   by_found None q = absurd (cond_both g.lost (refill_tick (nat_lt g.lost_to (lowest_unclean g)) (missing g)) Nothing (λ t. t ≡ Cleans k y → ⊥) (λ u z. by_missing _ _ z) (λ u z. cc) q)
   by_found (Some z) q = let a : lowest_unclean g ≡ k = cc in let b = gap_low 1 g.summaries in omega arith
 
-module _ (c : Config) (s : State) (e : Event) (hs : List Happened) (made : List Made) (H : (y : ℕ) → NodeCopies made s.network.sent y (node_at s y))
+module _ (c : Config) (s : State) (e : Move) (hs : List Happened) (made : List Made) (H : (y : ℕ) → NodeCopies made s.network.sent y (node_at s y))
     (F : (y l : ℕ) → LogFine (log_of (node_at s y).plain l)) (L : (y l : ℕ) → LogFine (log_of (load (node_at s y)).plain l)) (K : (y l : ℕ) → Keyed (log_of (node_at s y).plain l)) (C : (y l : ℕ) → LogClean (log_of (node_at s y).plain l))
     (says : (m : Msg) (n lng : ℕ) (x : What) → In m s.network.sent → m.body ≡ bodies.Store n lng x → Says hs made m.log (ballot_of m.from) n x)
     (same : (n l k : ℕ) (y z : Summary) → 0 < k → find k (epochs_of s.register l).summaries ≡ Some y → find k (log_of (node_at s n).plain l).summaries ≡ Some z → z ≡ y)

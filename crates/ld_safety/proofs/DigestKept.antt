@@ -9,7 +9,6 @@ use Rattle.ld_lsn.specs.Number.{epoch_of, esn_of, home_epoch}
 use Rattle.ld_ids.specs.declared.set.Spec.{Spec}
 use Rattle.ld_ids.specs.Choice.{nodes_of}
 use Rattle.ld_config.specs.declared.config.Config.{Config}
-use Rattle.ld_schedule.specs.declared.event.Event.{Event}
 use Rattle.ld_msg.specs.declared.msg.What.{What}
 use Rattle.ld_msg.specs.declared.msg.Entry.{Entry}
 use Rattle.ld_msg.specs.declared.msg.Summary.{Summary}
@@ -20,7 +19,7 @@ use Rattle.ld_msg.specs.declared.msg.Body.{Body}
 use Rattle.ld_msg.specs.declared.msg.Body.TheVariants as bodies
 use Rattle.ld_msg.specs.Register.{Changed, Register, Epochs, Granted, activate, draw, epochs_of, lce_of}
 use Rattle.ld_msg.specs.Digest.{Told, digest_lng}
-use Rattle.ld_msg.specs.Sequencer.{Sequencer, Recovery, Stage, Seals, Stores, Closes, Acts, called, on_reply, on_retry, Numbered, appended, activated, bare}
+use Rattle.ld_msg.specs.Sequencer.{Called, Sequencer, Recovery, Stage, Seals, Stores, Closes, called, on_reply, on_retry, Numbered, appended, activated, bare}
 use Rattle.ld_op.specs.declared.op.Op.{Op}
 use Rattle.ld_op.specs.Ticks.{Ticked, Cleans, Rebuilt, Asks, Nothing}
 use Rattle.ld_machine.specs.Config.{looks_at}
@@ -31,7 +30,7 @@ use Rattle.ld_machine.specs.World.{Made, In, gone_nodes, made_by, made_retried}
 use Rattle.ld_machine.specs.Step as Step
 use Rattle.ld_safety.proofs.Lists.{Some_inj, cond_both, In-append, In_right, not_both}
 use Rattle.ld_safety.proofs.Names.{named_cases}
-use Rattle.ld_safety.proofs.Events.{swapped_by, Cases, Live, refreshed}
+use Rattle.ld_safety.proofs.Events.{retry_call, announced, swapped_by, Cases, Live, refreshed}
 use Rattle.ld_safety.proofs.RegisterSteps.{activated_epochs}
 use Rattle.ld_safety.proofs.SequencerSteps.{Hearing, same_sender, replied, retried}
 use Rattle.ld_safety.proofs.Numbers.{Epochs_once}
@@ -43,6 +42,7 @@ use Rattle.ld_safety.proofs.Registers.{Up, Reached, EachClosed, activate_each, r
 use Rattle.ld_safety.proofs.Carried as carried
 use Rattle.ld_safety.proofs.Digests.{Covered, ToldSoFar, DigestSoFar, PageFacts, NoPlan, page_frozen}
 use Rattle.ld_safety.proofs.Digesting.{InRecovery, heard_in, PagesGood, StageFine, RecoveryFine, Fine, NewPlan, begins_fine, Both, retrying_fine, acting_fine}
+use Rattle.ld_machine.specs.Calm.{Move}
 
 -- ---- while more happens ----
 module _ (hs next : List Happened) (made more : List Made) (sent after : List Msg) (into : (m : Msg) → In m sent → In m after)
@@ -121,7 +121,7 @@ node_from E T Y O V W R G (whos.Sequencer b) h = absurd h
 node_from E T Y O V W R G (whos.Reader n) h = absurd h
 
 -- ---- every event ----
-module _ (c : Config) (s : State) (e : Event) (hs : List Happened) (made : List Made) (S : AllSaid c hs made s.register s) (X : Epochs_once s.sequencers s.register)
+module _ (c : Config) (s : State) (e : Move) (hs : List Happened) (made : List Made) (S : AllSaid c hs made s.register s) (X : Epochs_once s.sequencers s.register)
     (A : ShowsAll made s.network.sent) (B : PagesBounded s.network.sent) (M : MadeBelow made s.register) (D : AllFine c hs s.network.sent made s.register s.sequencers)
     (V : AnswersFrom s.network.sent) (EC : EachClosed s.register) (SO : SettlersOf c s.register s.network.sent) where
   sent : List Msg
@@ -166,11 +166,11 @@ module _ (c : Config) (s : State) (e : Event) (hs : List Happened) (made : List 
     own = X.drawn name q v.named
 
     -- what its call comes to
-    by_call : (k : List (List ℕ × Sequencer)) (a : Acts) (more : List Made) → k ≡ put_named name (called (looks_at c s.register q.log) s.register a a.tries).acts.sequencer s.sequencers → (u : Up s.register (called (looks_at c s.register q.log) s.register a a.tries).register) (w : Stays c s.register (called (looks_at c s.register q.log) s.register a a.tries).register)
-        → Both c hs s.network.sent (gone_nodes s) made s.register q (called (looks_at c s.register q.log) s.register a a.tries) u w EC own (D name q v.named) (lifted (called (looks_at c s.register q.log) s.register a a.tries).register [] u w q.log q.epoch q.recovery (λ x h j. j) (D name q v.named)) (called (looks_at c s.register q.log) s.register a a.tries) more
-        → AllFine c hs s.network.sent (more ++ made) (called (looks_at c s.register q.log) s.register a a.tries).register k
+    by_call : (k : List (List ℕ × Sequencer)) (call : Called) (more : List Made) → k ≡ put_named name call.acts.sequencer s.sequencers → (u : Up s.register call.register) (w : Stays c s.register call.register)
+        → Both c hs s.network.sent (gone_nodes s) made s.register q call u w EC own (D name q v.named) (lifted call.register [] u w q.log q.epoch q.recovery (λ x h j. j) (D name q v.named)) call more
+        → AllFine c hs s.network.sent (more ++ made) call.register k
         × ((l x b : ℕ) (f : Basis) → In (plan_of l x b f) more → NewPlan c hs s.network.sent (gone_nodes s) made s.register l x b f × (b ≤ (epochs_of s.register l).epoch)) × PlansOnce more
-    by_call k a more h u w both = let call = called (looks_at c s.register q.log) s.register a a.tries in (
+    by_call k call more h u w both = (
       subst (AllFine c hs s.network.sent (more ++ made) call.register) (sym h) (puts name call.acts.sequencer call.register more u w both.0
           (λ k w b h x j n. let z = both.1 w.log x w.epoch j n in let o : k ≡ name = X.once k name w q h v.named z.1 z.2 in not_both _ (subst (λ p. same k p ≡ true) o (same-self k)) b)),
       (λ l x b h n. let z = both.1 l x b h n in let o = X.drawn name q v.named in (z.0, subst (λ p. b ≤ (epochs_of s.register p).epoch) (sym z.1) (let p = z.2 in omega arith))),
@@ -180,13 +180,13 @@ module _ (c : Config) (s : State) (e : Event) (hs : List Happened) (made : List 
     pages_after : (k : Register) → Up s.register k → Stays c s.register k → PagesGood c hs s.network.sent k
     pages_after k u w l x b o h p n q j z = acked_stays c hs s.network.sent s.register k u w l n (pages_good c hs made s S l x b o h p n q j z)
 
-    retry : Result (Step.acted c s name q (on_retry (looks_at c s.register q.log) q)) (made_retried c s (Some q))
-    retry u w =
+    retry : (again : Bool) → Result (Step.told s name q (announced again (retry_call c s q))) (made_retried c s (Some q))
+    retry again u w =
         let a = on_retry (looks_at c s.register q.log) q in
         let call = called (looks_at c s.register q.log) s.register a a.tries in
         let F = lifted call.register [] u w q.log q.epoch q.recovery (λ x h j. j) (D name q v.named) in
         let both = retried c s q v.there (λ x n. call ≡ x → Both c hs s.network.sent (gone_nodes s) made s.register q call u w EC own (D name q v.named) F x n)
-        (retrying_fine c hs s.network.sent (gone_nodes s) made s.register q call u w EC own (D name q v.named) F A (pages_after call.register u w)) refl in by_call _ a (made_retried c s (Some q)) refl u w both
+        (retrying_fine c hs s.network.sent (gone_nodes s) made s.register q call u w EC own (D name q v.named) F A (pages_after call.register u w)) refl in by_call _ call (made_retried c s (Some q)) refl u w both
 
     -- what a message says
     pub cleaned_closed : (m : Msg) → In m s.network.sent → m.log ≡ q.log → (n : ℕ) (y : Summary) → m.body ≡ bodies.CleanHere n y → home_epoch n ≤ lce_of s.register q.log
@@ -235,7 +235,7 @@ module _ (c : Config) (s : State) (e : Event) (hs : List Happened) (made : List 
         let F = lifted call.register [] u w q.log q.epoch q.recovery (λ x h j. j) (D name q v.named) in
         let R = reply m i t g call.register u w in
         let both = replied c s name q v.there y m.body (λ x n. call ≡ x → Both c hs s.network.sent (gone_nodes s) made s.register q call u w EC own (D name q v.named) F x n)
-        (acting_fine c hs s.network.sent (gone_nodes s) made s.register q call u w EC own (D name q v.named) F y m.body A (pages_after call.register u w) (cleaned_closed m i g) (lost_said m i t g) R (page m i t g)) refl in by_call _ a (made_by c s (Some (name, q)) y m.body) refl u w both
+        (acting_fine c hs s.network.sent (gone_nodes s) made s.register q call u w EC own (D name q v.named) F y m.body A (pages_after call.register u w) (cleaned_closed m i g) (lost_said m i t g) R (page m i t g)) refl in by_call _ call (made_by c s (Some (name, q)) y m.body) refl u w both
 
   activates : (name : List ℕ) (l : ℕ) (k : Register) → activate s.register l (Step.spec_set c s l) ≡ record { register = k; answer = Granted } → Result (Step.activated_as c s name l k (epochs_of k l).epoch (lce_of k l)) []
   unfolding activated
@@ -263,9 +263,9 @@ module _ (c : Config) (s : State) (e : Event) (hs : List Happened) (made : List 
 
   pub digest_cases : Cases c s e Result
   digest_cases = record {
-    still = λ f i u y. (same_all s.register u y, none_new, none_once);
+    still = λ f older i u y. (same_all s.register u y, none_new, none_once);
     says = λ x q u y. (same_all s.register u y, none_new, none_once);
-    node_hears = λ f n m i t v o. handled f (Step.releases (node_at s n) m.log m.body) n m (Step.node_handles n (node_at s n) m).op (Step.node_handles n (node_at s n) m).answer;
+    node_hears = λ f older n m i t v o. handled f (Step.releases (node_at s n) m.log m.body) n m (Step.node_handles n (node_at s n) m).op (Step.node_handles n (node_at s n) m).answer;
     loads = λ n ls q b o u y. (same_all s.register u y, none_new, none_once);
     draw_fails = λ n b u y. (same_all (draw s.register n).register u y, none_new, none_once);
     formats = λ n k g b v i u y. (same_all k u y, none_new, none_once);
@@ -275,15 +275,15 @@ module _ (c : Config) (s : State) (e : Event) (hs : List Happened) (made : List 
     faults = λ n f o u y. (same_all s.register u y, none_new, none_once);
     sets = λ l r x set h u y. (same_all s.register u y, none_new, none_once);
     arms = λ k done o u y. (same_all (Step.armed s.register k done) u y, none_new, none_once);
-    hears = λ f name q m i t l v o. subst (λ p. Result (Step.acted c (refreshed s f) name q (on_reply (looks_at c s.register q.log) q (Step.sender_node m.from) m.body)) (made_by c s (Some (name, q)) p m.body)) (sym (same_sender m.from)) (heard name q v f m i t l);
-    retries = λ name q v o. retry name q v;
+    hears = λ f older name q m i t l v o. subst (λ p. Result (Step.acted c (refreshed s f) name q (on_reply (looks_at c s.register q.log) q (Step.sender_node m.from) m.body)) (made_by c s (Some (name, q)) p m.body)) (sym (same_sender m.from)) (heard name q v f m i t l);
+    retries = λ again name q v o. retry name q v again;
     appends = λ name q p v a i. goes_on (Step.append_done s name q p Numbered) name q (appended q p) v.named refl refl refl refl;
     trims = λ name q t v b u y. (same_all s.register u y, none_new, none_once);
     drops = λ name q v o. goes_on (only_state (with_sequencer s name (Step.dropped q))) name q (Step.dropped q) v.named refl refl refl refl;
     activates = λ name l k g n i x. activates name l k i;
     swaps = λ n m l x r q i u y. (same_all (swapped_by s n m l).register u y, none_new, none_once);
     activate_fails = λ name l x g q u y. (same_all (activate s.register l (Step.spec_set c s l)).register u y, none_new, none_once);
-    answers = λ f name d m i t v o u y. (same_all s.register u y, none_new, none_once);
+    answers = λ f older name d m i t v o u y. (same_all s.register u y, none_new, none_once);
     polls = λ name d v o u y. (same_all s.register u y, none_new, none_once);
     opens = λ style name l from until o x u y. (same_all s.register u y, none_new, none_once);
   }

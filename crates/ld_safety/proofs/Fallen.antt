@@ -6,7 +6,6 @@ use Rattle.ld_table.specs.Table.{find}
 use Rattle.ld_table.proofs.Laws.{put_cases}
 use Rattle.ld_lsn.specs.Number.{epoch_of}
 use Rattle.ld_config.specs.declared.config.Config.{Config}
-use Rattle.ld_schedule.specs.declared.event.Event.{Event}
 use Rattle.ld_msg.specs.declared.msg.Entry.{Entry}
 use Rattle.ld_op.specs.declared.op.Op.{Op}
 use Rattle.ld_op.specs.declared.op.Op.TheVariants as ops
@@ -15,7 +14,7 @@ use Rattle.ld_msg.specs.Register.{Register, no_epochs, epochs_of, epochs_in, dra
 use Rattle.ld_machine.specs.Disk.{Node, new_node, keep_op, load}
 use Rattle.ld_machine.specs.State.{State, finish, node_at}
 use Rattle.ld_machine.specs.World.{World, MayHold, is_gone, is_cut_gone}
-use Rattle.ld_machine.specs.Run.{next_world}
+use Rattle.ld_machine.specs.Run.{after_step}
 use Rattle.ld_machine.specs.Step as Step
 use Rattle.ld_safety.proofs.Lists.{not_none, not_both}
 use Rattle.ld_safety.proofs.Events.{NamesOnce, dispatch}
@@ -25,6 +24,7 @@ use Rattle.ld_safety.proofs.NodeCases.{NodeKeeps, node_cases}
 use Rattle.ld_safety.proofs.LostNodes.{kept_from, loaded_from, released_from}
 use Rattle.ld_safety.proofs.LostUnserved.{format_lost}
 use Rattle.ld_safety.proofs.LostFull.{FullLog}
+use Rattle.ld_machine.specs.Calm.{Move}
 
 -- blank, or lost up to the epoch since its format
 abbrev pub Fallen : Plain → ℕ → ℕ → Type 0
@@ -87,7 +87,7 @@ pub blank_fallen : (l e : ℕ) → AllFallen new_node l e
 blank_fallen l e p (inl q) = inl (ap (λ (z : Plain). z.generation) q)
 blank_fallen l e p (inr q) = absurd (not_none q.1)
 
-fallen_keeps : (c : Config) (s : State) (v : Event) → NodeKeeps c s v (λ y x. (l e : ℕ) → 0 < e → e ≤ (epochs_of s.register l).epoch → AllFallen (node_at s y) l e → AllFallen x l e)
+fallen_keeps : (c : Config) (s : State) (v : Move) → NodeKeeps c s v (λ y x. (l e : ℕ) → 0 < e → e ≤ (epochs_of s.register l).epoch → AllFallen (node_at s y) l e → AllFallen x l e)
 fallen_keeps c s v = record {
   all = λ y l e a b h. h;
   hears = λ n m i t u l e a b h p q. h p (released_from (node_at s n) m.log m.body p q);
@@ -101,7 +101,7 @@ fallen_keeps c s v = record {
   faults = λ n f l e a b h. h;
 }
 
-pub fallen_step : (c : Config) (w : World) (v : Event) → NamesOnce w.state → (y l e : ℕ) → 0 < e → e ≤ (epochs_of w.state.register l).epoch → AllFallen (node_at w.state y) l e → AllFallen (node_at (next_world c w v).state y) l e
+pub fallen_step : (c : Config) (w : World) (v : Move) → NamesOnce w.state → (y l e : ℕ) → 0 < e → e ≤ (epochs_of w.state.register l).epoch → AllFallen (node_at w.state y) l e → AllFallen (node_at (after_step c w v).state y) l e
 unfolding finish
 fallen_step c w v N y l e a b h = dispatch c w.state v (λ d m. (y : ℕ) → (l e : ℕ) → 0 < e → e ≤ (epochs_of w.state.register l).epoch → AllFallen (node_at w.state y) l e → AllFallen (node_at d.state y) l e) N
     (node_cases c w.state v (λ y x. (l e : ℕ) → 0 < e → e ≤ (epochs_of w.state.register l).epoch → AllFallen (node_at w.state y) l e → AllFallen x l e) (fallen_keeps c w.state v)) y l e a b h

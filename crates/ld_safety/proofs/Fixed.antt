@@ -28,21 +28,23 @@ use Rattle.ld_op.specs.Ticks.{Ticked, Cleans, Rebuilt, Asks, Nothing, on_tick}
 use Rattle.ld_machine.specs.Config.{first_spec, looks_at, fixed_of, has_log, has_node}
 use Rattle.ld_machine.specs.Disk.{Node, Kept, Written, DiskFailed, Crashed, JournalFull, keep_end, load_end, is_up, is_blank, is_down, is_failed}
 use Rattle.ld_machine.specs.State.{State, Done, finish, node_at, with_node, with_line, or_none, message_lines, sequencer_of, reader_of}
-use Rattle.ld_machine.specs.Facts.{Happened, epoch_made, set_by, set_in, set_after, makes, spec_fixed}
+use Rattle.ld_machine.specs.Facts.{Happened, set_by, set_in, set_after, makes, spec_fixed}
 use Rattle.ld_machine.specs.World.{World, In, begin}
-use Rattle.ld_machine.specs.Run.{next_world}
+use Rattle.ld_machine.specs.Run.{after_step, epoch_made}
 use Rattle.ld_machine.specs.Step as Step
 use Rattle.ld_msg.specs.Network.{message}
 use Rattle.ld_safety.proofs.Lists.{cond_both, only, not_none}
-use Rattle.ld_safety.proofs.Traces.{Keeps, happened}
+use Rattle.ld_safety.proofs.Traces.{Keeps, step_happened}
 use Rattle.ld_safety.proofs.NamesKept.{names_step}
 use Rattle.ld_safety.proofs.Lines.{Group, group, OfNodes, OfNumbers, OfActs, OfTrims, OfSets, OfItems, AllOf, none_of, one_of, kept_of, format_of, acted_of, items_of, quiet_of}
-use Rattle.ld_safety.proofs.Events.{NamesOnce, Cases, dispatch, is_quiet, refreshed, loaded}
+use Rattle.ld_safety.proofs.Events.{retry_call, announced, NamesOnce, Cases, dispatch, is_quiet, refreshed, loaded}
 use Rattle.ld_safety.proofs.Registers.{Reached, register_kept, spec_found}
 use Rattle.ld_safety.proofs.RegisterSteps.{Same, activate_leaves, close_leaves, draw_leaves, swap_leaves, epochs_put, epochs_same}
 use Rattle.ld_msg.specs.declared.style.Style.{Style}
 use Rattle.ld_msg.specs.declared.style.Style.TheVariants as styles
 use Rattle.ld_batch.specs.Batch.{packed}
+use Rattle.ld_machine.specs.Calm as Calm
+use Rattle.ld_machine.specs.Calm.{Move, Takes, Calms, event_of}
 
 -- ---- steps at the end of a history ----
 set_in-append : (l : ℕ) (xs ys : List Line) (s : Spec) → set_in l (xs ++ ys) s ≡ set_in l ys (set_in l xs s)
@@ -96,7 +98,7 @@ unfolding finish
 sets_finish l d t = sets_or l (d.lines ++ message_lines d.state d.state.network.count d.sends) t ∙ (set_in-append l d.lines (message_lines d.state d.state.network.count d.sends) t ∙ sets_messages l d.state d.state.network.count d.sends (set_in l d.lines t))
 
 -- ---- what later activations use ----
-module _ (c : Config) (s : State) (e : Event) where
+module _ (c : Config) (s : State) (e : Move) where
   SetSo : Done → Type 0
   SetSo d = (l : ℕ) → set_in l d.lines (Step.spec_set c s l) ≡ Step.spec_set c d.state l
 
@@ -132,9 +134,9 @@ module _ (c : Config) (s : State) (e : Event) where
 
   set_cases : Cases c s e (λ d m. SetSo d)
   set_cases = record {
-    still = λ f i. keeps _ refl nothing;
+    still = λ f older i. keeps _ refl nothing;
     says = λ x q. keeps _ refl (quiet_one x q);
-    node_hears = λ f n m i t v o. handled f n m (Step.releases (node_at s n) m.log m.body) (Step.node_handles n (node_at s n) m).op (Step.node_handles n (node_at s n) m).answer;
+    node_hears = λ f older n m i t v o. handled f n m (Step.releases (node_at s n) m.log m.body) (Step.node_handles n (node_at s n) m).op (Step.node_handles n (node_at s n) m).answer;
     loads = λ n ls q b o. keeps _ refl (of_quiet ls q);
     draw_fails = λ n b. others OfNodes _ (λ q. cc) refl (one_of (lines.NodeRefusedRegister n));
     formats = λ n r g b v i. others OfNodes _ (λ q. cc) refl (kept_of n (Step.format_lines c n r) _ (format_of c n r));
@@ -143,21 +145,21 @@ module _ (c : Config) (s : State) (e : Event) where
     wipes = λ n. others OfNodes _ (λ q. cc) refl (one_of (lines.NodeWiped n));
     faults = λ n f o. keeps _ refl nothing;
     arms = λ k done o. keeps _ refl nothing;
-    hears = λ f name q m i t l v o. others OfActs _ (λ z. cc) refl (acted_of name q (called (looks_at c s.register q.log) s.register (on_reply (looks_at c s.register q.log) q (Step.sender_node m.from) m.body) (on_reply (looks_at c s.register q.log) q (Step.sender_node m.from) m.body).tries).acts);
-    retries = λ name q v o. others OfActs _ (λ z. cc) refl (acted_of name q (called (looks_at c s.register q.log) s.register (on_retry (looks_at c s.register q.log) q) (on_retry (looks_at c s.register q.log) q).tries).acts);
+    hears = λ f older name q m i t l v o. others OfActs _ (λ z. cc) refl (acted_of name q (called (looks_at c s.register q.log) s.register (on_reply (looks_at c s.register q.log) q (Step.sender_node m.from) m.body) (on_reply (looks_at c s.register q.log) q (Step.sender_node m.from) m.body).tries).acts);
+    retries = λ again name q v o. others OfActs _ (λ z. cc) refl (acted_of name q (announced again (retry_call c s q)).acts);
     appends = λ name q p v a i. others OfNumbers _ (λ q. cc) refl (one_of (lines.Appended name _));
     trims = λ name q t v b. others OfTrims _ (λ q. cc) refl (one_of (lines.Trimmed name t));
     drops = λ name q v o. keeps _ refl nothing;
     activates = λ name l r g n i x. others OfNumbers _ (λ q. cc) refl (one_of (lines.Active name _));
     swaps = λ n m l x r q i. keeps _ refl (quiet_one x q);
     activate_fails = λ name l x g q. keeps _ refl (quiet_one x q);
-    answers = λ f name d m i t v o. others OfItems _ (λ q. cc) refl (items_of _ name _ _);
+    answers = λ f older name d m i t v o. others OfItems _ (λ q. cc) refl (items_of _ name _ _);
     polls = λ name d v o. keeps _ refl nothing;
     opens = λ style name l from until o x. keeps _ refl nothing;
     sets = λ l r x set g. sets l r x set;
   }
 
-  set_step : NamesOnce s → (l : ℕ) → set_in l (Step.happens c s e).lines (Step.spec_set c s l) ≡ Step.spec_set c (Step.happens c s e).state l
+  set_step : NamesOnce s → (l : ℕ) → set_in l (Calm.moves c s e).lines (Step.spec_set c s l) ≡ Step.spec_set c (Calm.moves c s e).state l
   unfolding SetSo
   set_step N = dispatch c s e (λ d m. SetSo d) N set_cases
 
@@ -362,34 +364,40 @@ module _ (c : Config) (s : State) where
         (λ t. answered_by name (activate s.register l (Step.spec_set c s l)).answer) (λ t. idle name)
 
   -- ---- every event ----
-  register_step : (e : Event) → ((l e : ℕ) (t : Spec) → find e (epochs_of s.register l).specs ≡ Some t → e ≤ (epochs_of s.register l).epoch) → let d : Done = Step.happens c s e in OnceMore (epoch_made s.register d.state.register e) d.state.register
+  event_register : (e : Event) → ((l e : ℕ) (t : Spec) → find e (epochs_of s.register l).specs ≡ Some t → e ≤ (epochs_of s.register l).epoch) → let d : Done = Step.happens c s e in OnceMore (epoch_made s.register d.state.register e) d.state.register
   unfolding Step.happens Step.delivers
-  register_step (events.Activate name l) low = activation low l name
-  register_step (events.Format n) low = idle_step (Step.happens c s (events.Format n)) (either (has_node c n && is_blank (node_at s n).status) _ _ (formats_loaded n (load_end (node_at s n))) (same _ refl))
-  register_step (events.Append name p) low = idle_step (Step.happens c s (events.Append name p)) (on_live (find_named name s.sequencers) _ (λ q. append_done name q p (appending q p)))
-  register_step (events.Batch name ms) low = idle_step (Step.happens c s (events.Batch name ms)) (on_live (find_named name s.sequencers) _ (λ q. append_done name q (packed ms) (appending q (packed ms))))
-  register_step (events.Trim name t) low = idle_step (Step.happens c s (events.Trim name t)) (on_live (find_named name s.sequencers) _ (λ q. either (nat_lt (released_of q) t) _ _ (same _ refl) (same _ refl)))
-  register_step (events.Retry name) low = idle_step (Step.happens c s (events.Retry name)) (on_live (find_named name s.sequencers) _ (λ q. acted s.network.fresh name q (on_retry (looks_at c s.register q.log) q)))
-  register_step (events.Drop name) low = idle_step (Step.happens c s (events.Drop name)) (on_live (find_named name s.sequencers) _ (λ q. same _ refl))
-  register_step (events.Deliver i) low = idle_step (Step.happens c s (events.Deliver i)) (delivered i (message s.network i))
-  register_step (events.Lose i) low = idle_step (Step.happens c s (events.Lose i)) (same _ refl)
-  register_step (events.Flow n) low = idle_step (Step.happens c s (events.Flow n)) (same _ refl)
-  register_step (events.Open name l from until) low = idle_step (Step.happens c s (events.Open name l from until)) (opens styles.EachCopy name l from until)
-  register_step (events.OpenOne name l from until) low = idle_step (Step.happens c s (events.OpenOne name l from until)) (opens styles.OneCopy name l from until)
-  register_step (events.OpenMessages name l from until) low = idle_step (Step.happens c s (events.OpenMessages name l from until)) (opens styles.OfMessages name l from until)
-  register_step (events.Poll name) low = idle_step (Step.happens c s (events.Poll name)) (polls name (find_named name s.readers))
-  register_step (events.Tick n l) low = idle_step (Step.happens c s (events.Tick n l)) (either (has_node c n && true) _ _ (either (is_up (node_at s n).status && has_log c l) _ _ (ticks_as n l (on_tick (log_of (node_at s n).plain l) (epochs_of s.register l).summaries)) (same _ refl)) (same _ refl))
-  register_step (events.Down n) low = idle_step (Step.happens c s (events.Down n)) (either (has_node c n && (is_up (node_at s n).status || is_failed (node_at s n).status)) _ _ (same _ refl) (same _ refl))
-  register_step (events.Up n) low = idle_step (Step.happens c s (events.Up n)) (either (has_node c n && is_down (node_at s n).status) _ _ (same _ refl) (same _ refl))
-  register_step (events.Wipe n) low = idle_step (Step.happens c s (events.Wipe n)) (either (has_node c n && true) _ _ (same _ refl) (same _ refl))
-  register_step (events.Fail n k) low = idle_step (Step.happens c s (events.Fail n k)) (either (has_node c n && true) _ _ (same _ refl) (same _ refl))
-  register_step (events.Tear n k picture) low = idle_step (Step.happens c s (events.Tear n k picture)) (either (has_node c n && true) _ _ (same _ refl) (same _ refl))
-  register_step (events.Set l r x set) low = idle_step (Step.happens c s (events.Set l r x set)) (either (Step.can_set c l r x (members set)) _ _ (same _ refl) (same _ refl))
-  register_step (events.Replace n other l) low = idle_step (Step.happens c s (events.Replace n other l)) (either (has_node c n && Step.can_replace c s n other l) _ _ (replaces n other l _ (swap s.register l (log_of (node_at s n).plain l).lost_to other n).answer) (same _ refl))
-  register_step (events.RegFail k done) low = idle_step (Step.happens c s (events.RegFail k done)) (moved _ (by_logs (Step.armed s.register k done) refl))
+  event_register (events.Activate name l) low = activation low l name
+  event_register (events.Format n) low = idle_step (Step.happens c s (events.Format n)) (either (has_node c n && is_blank (node_at s n).status) _ _ (formats_loaded n (load_end (node_at s n))) (same _ refl))
+  event_register (events.Append name p) low = idle_step (Step.happens c s (events.Append name p)) (on_live (find_named name s.sequencers) _ (λ q. append_done name q p (appending q p)))
+  event_register (events.Batch name ms) low = idle_step (Step.happens c s (events.Batch name ms)) (on_live (find_named name s.sequencers) _ (λ q. append_done name q (packed ms) (appending q (packed ms))))
+  event_register (events.Trim name t) low = idle_step (Step.happens c s (events.Trim name t)) (on_live (find_named name s.sequencers) _ (λ q. either (nat_lt (released_of q) t) _ _ (same _ refl) (same _ refl)))
+  event_register (events.Retry name) low = idle_step (Step.happens c s (events.Retry name)) (on_live (find_named name s.sequencers) _ (λ q. acted s.network.fresh name q (on_retry (looks_at c s.register q.log) q)))
+  event_register (events.Drop name) low = idle_step (Step.happens c s (events.Drop name)) (on_live (find_named name s.sequencers) _ (λ q. same _ refl))
+  event_register (events.Deliver i) low = idle_step (Step.happens c s (events.Deliver i)) (delivered i (message s.network i))
+  event_register (events.Lose i) low = idle_step (Step.happens c s (events.Lose i)) (same _ refl)
+  event_register (events.Flow n) low = idle_step (Step.happens c s (events.Flow n)) (same _ refl)
+  event_register (events.Open name l from until) low = idle_step (Step.happens c s (events.Open name l from until)) (opens styles.EachCopy name l from until)
+  event_register (events.OpenOne name l from until) low = idle_step (Step.happens c s (events.OpenOne name l from until)) (opens styles.OneCopy name l from until)
+  event_register (events.OpenMessages name l from until) low = idle_step (Step.happens c s (events.OpenMessages name l from until)) (opens styles.OfMessages name l from until)
+  event_register (events.Poll name) low = idle_step (Step.happens c s (events.Poll name)) (polls name (find_named name s.readers))
+  event_register (events.Tick n l) low = idle_step (Step.happens c s (events.Tick n l)) (either (has_node c n && true) _ _ (either (is_up (node_at s n).status && has_log c l) _ _ (ticks_as n l (on_tick (log_of (node_at s n).plain l) (epochs_of s.register l).summaries)) (same _ refl)) (same _ refl))
+  event_register (events.Down n) low = idle_step (Step.happens c s (events.Down n)) (either (has_node c n && (is_up (node_at s n).status || is_failed (node_at s n).status)) _ _ (same _ refl) (same _ refl))
+  event_register (events.Up n) low = idle_step (Step.happens c s (events.Up n)) (either (has_node c n && is_down (node_at s n).status) _ _ (same _ refl) (same _ refl))
+  event_register (events.Wipe n) low = idle_step (Step.happens c s (events.Wipe n)) (either (has_node c n && true) _ _ (same _ refl) (same _ refl))
+  event_register (events.Fail n k) low = idle_step (Step.happens c s (events.Fail n k)) (either (has_node c n && true) _ _ (same _ refl) (same _ refl))
+  event_register (events.Tear n k picture) low = idle_step (Step.happens c s (events.Tear n k picture)) (either (has_node c n && true) _ _ (same _ refl) (same _ refl))
+  event_register (events.Set l r x set) low = idle_step (Step.happens c s (events.Set l r x set)) (either (Step.can_set c l r x (members set)) _ _ (same _ refl) (same _ refl))
+  event_register (events.Replace n other l) low = idle_step (Step.happens c s (events.Replace n other l)) (either (has_node c n && Step.can_replace c s n other l) _ _ (replaces n other l _ (swap s.register l (log_of (node_at s n).plain l).lost_to other n).answer) (same _ refl))
+  event_register events.Calm low = idle_step (Step.happens c s events.Calm) (same _ refl)
+  event_register (events.RegFail k done) low = idle_step (Step.happens c s (events.RegFail k done)) (moved _ (by_logs (Step.armed s.register k done) refl))
 
-pub made_step : (c : Config) (s : State) (e : Event) → ((l e : ℕ) (t : Spec) → find e (epochs_of s.register l).specs ≡ Some t → e ≤ (epochs_of s.register l).epoch)
-    → (k x : ℕ) → find x (epochs_of (Step.happens c s e).state.register k).specs ≡ or_else (find x (epochs_of s.register k).specs) (if makes k x (epoch_made s.register (Step.happens c s e).state.register e) then Some (Step.spec_set c s k) else None)
+  register_step : (e : Move) → ((l e : ℕ) (t : Spec) → find e (epochs_of s.register l).specs ≡ Some t → e ≤ (epochs_of s.register l).epoch) → let d : Done = Calm.moves c s e in OnceMore (epoch_made s.register d.state.register (event_of e)) d.state.register
+  unfolding SameFixed
+  register_step (Takes e) low = event_register e low
+  register_step (Calms name) low = idle_step (Calm.moves c s (Calms name)) (on_live (find_named name s.sequencers) _ (λ q. acted s.network.fresh name q (on_retry (looks_at c s.register q.log) q)))
+
+pub made_step : (c : Config) (s : State) (e : Move) → ((l e : ℕ) (t : Spec) → find e (epochs_of s.register l).specs ≡ Some t → e ≤ (epochs_of s.register l).epoch)
+    → (k x : ℕ) → find x (epochs_of (Calm.moves c s e).state.register k).specs ≡ or_else (find x (epochs_of s.register k).specs) (if makes k x (epoch_made s.register (Calm.moves c s e).state.register (event_of e)) then Some (Step.spec_set c s k) else None)
 unfolding OnceMore
 made_step c s e low = register_step c s e low
 
@@ -409,7 +417,7 @@ next_fine g p h = record {
   below : (e : ℕ) → e ≤ g.epoch + 1 → (e ≡ g.epoch + 1 → ⊥) → e ≤ g.epoch
   below e u n = elim (cases_lt g.epoch e) [ inl k ↦ absurd (n (omega arith)) | inr k ↦ k ]
 
-specs_at_step : (c : Config) (s : State) (e : Event) → NamesOnce s → SpecsAt s.register → SpecsAt (Step.happens c s e).state.register
+specs_at_step : (c : Config) (s : State) (e : Move) → NamesOnce s → SpecsAt s.register → SpecsAt (Calm.moves c s e).state.register
 specs_at_step c s e N h = register_kept c s e SpecsAt h
     (λ l g. elim (activate_leaves s.register l (Step.spec_set c s l)) [
       | inl a ↦ (λ k. subst FineAt (sym (epochs_same s.register (activate s.register l (Step.spec_set c s l)).register k a)) (h k))
@@ -440,13 +448,13 @@ pub record AsFixed (c : Config) (hs : List Happened) (w : World) : Type 0 where
   pub fixed : (l e : ℕ) → spec_fixed l e hs (first_spec c l) ≡ find e (epochs_of w.state.register l).specs
   pub set : (l : ℕ) → set_after l hs (first_spec c l) ≡ Step.spec_set c w.state l
 
-fixed_step : (c : Config) (hs : List Happened) (w : World) (e : Event) → NamesOnce w.state → AsFixed c hs w → AsFixed c (hs ++ happened c w.state e ∷ []) (next_world c w e)
+fixed_step : (c : Config) (hs : List Happened) (w : World) (e : Move) → NamesOnce w.state → AsFixed c hs w → AsFixed c (hs ++ step_happened c w.state e ∷ []) (after_step c w e)
 unfolding finish OnceMore
 fixed_step c hs w e N F = record {
   specs = specs_at_step c w.state e N F.specs;
-  fixed = λ l x. fixed_end l x hs (happened c w.state e) (first_spec c l)
-      ∙ ((λ i. or_else (F.fixed l x i) (if makes l x (happened c w.state e).made then Some (F.set l i) else None)) ∙ sym (register_step c w.state e (λ k y t f. ((F.specs k).low y t f).1) l x));
-  set = λ l. set_after_end l hs (happened c w.state e) (first_spec c l) ∙ (ap (set_in l (happened c w.state e).lines) (F.set l) ∙ (sets_finish l (Step.happens c w.state e) (Step.spec_set c w.state l) ∙ set_step c w.state e N l));
+  fixed = λ l x. fixed_end l x hs (step_happened c w.state e) (first_spec c l)
+      ∙ ((λ i. or_else (F.fixed l x i) (if makes l x (step_happened c w.state e).made then Some (F.set l i) else None)) ∙ sym (register_step c w.state e (λ k y t f. ((F.specs k).low y t f).1) l x));
+  set = λ l. set_after_end l hs (step_happened c w.state e) (first_spec c l) ∙ (ap (set_in l (step_happened c w.state e).lines) (F.set l) ∙ (sets_finish l (Calm.moves c w.state e) (Step.spec_set c w.state l) ∙ set_step c w.state e N l));
 }
 
 start_fixed : (c : Config) → AsFixed c [] (begin c)

@@ -12,18 +12,20 @@ use Rattle.ld_msg.specs.Register.{Register, Epochs, epochs_of, with_epochs, swap
 use Rattle.ld_op.specs.Plain.{log_of}
 use Rattle.ld_machine.specs.Config.{first_spec, spec_of}
 use Rattle.ld_machine.specs.State.{State, finish, node_at}
-use Rattle.ld_machine.specs.Facts.{Happened, Swapped, set_in, set_after, makes, epoch_made, swap_made, swapped_by, swapped_in, spec_now}
+use Rattle.ld_machine.specs.Facts.{Happened, Swapped, set_in, set_after, makes, swapped_by, swapped_in, spec_now}
 use Rattle.ld_machine.specs.World.{World, begin}
-use Rattle.ld_machine.specs.Run.{next_world}
+use Rattle.ld_machine.specs.Run.{after_step, epoch_made, swap_made}
 use Rattle.ld_machine.specs.Step as Step
 use Rattle.ld_safety.proofs.Lists.{cond_both, not_none}
-use Rattle.ld_safety.proofs.Traces.{Keeps, happened, beside_kept}
+use Rattle.ld_safety.proofs.Traces.{Keeps, step_happened, beside_kept}
 use Rattle.ld_safety.proofs.Events.{NamesOnce}
 use Rattle.ld_safety.proofs.Registers.{Reached, EachClosed, each_closed, start_each, now_found}
 use Rattle.ld_safety.proofs.RegisterSteps.{epochs_put, epochs_same}
 use Rattle.ld_safety.proofs.Swaps.{find-swapped, then_swapped, Like}
 use Rattle.ld_safety.proofs.Joins.{AllKept, Pair, Swapping, swap_or_kept}
 use Rattle.ld_safety.proofs.Fixed.{AsFixed, made_step, fixed_kept}
+use Rattle.ld_machine.specs.Calm as Calm
+use Rattle.ld_machine.specs.Calm.{Move, event_of}
 
 -- ---- steps at the end of a history ----
 abbrev pub swapped_all : ℕ → ℕ → Option Swapped → Option Spec → Option Spec
@@ -64,12 +66,12 @@ at_other : (l e : ℕ) (x : Swapped) (o : Option Spec) → (x.log ≡ l → ⊥)
 at_other l e x None h = refl
 at_other l e x (Some p) h = ap Some (ap (λ b. if b then unwrap_or (find e x.specs) p else p) (ne_eqb x.log l h))
 
-module _ (c : Config) (s : State) (v : Event) (N : NamesOnce s) (E : EachClosed s.register) (O : (l e : ℕ) → find e (epochs_of (Step.happens c s v).state.register l).specs ≡ or_else (find e (epochs_of s.register l).specs) (if makes l e (epoch_made s.register (Step.happens c s v).state.register v) then Some (Step.spec_set c s l) else None)) where
+module _ (c : Config) (s : State) (v : Move) (N : NamesOnce s) (E : EachClosed s.register) (O : (l e : ℕ) → find e (epochs_of (Calm.moves c s v).state.register l).specs ≡ or_else (find e (epochs_of s.register l).specs) (if makes l e (epoch_made s.register (Calm.moves c s v).state.register (event_of v)) then Some (Step.spec_set c s l) else None)) where
   n : Register
-  n = (Step.happens c s v).state.register
+  n = (Calm.moves c s v).state.register
 
   abbrev Now : ℕ → ℕ → Type 0
-  Now l e = find e (epochs_of (Step.happens c s v).state.register l).swapped ≡ or_else (swapped_all l e (swap_made s.register (Step.happens c s v).state.register v) (find e (epochs_of s.register l).swapped)) (if makes l e (epoch_made s.register (Step.happens c s v).state.register v) then Some (Step.spec_set c s l) else None)
+  Now l e = find e (epochs_of (Calm.moves c s v).state.register l).swapped ≡ or_else (swapped_all l e (swap_made s.register (Calm.moves c s v).state.register (event_of v)) (find e (epochs_of s.register l).swapped)) (if makes l e (epoch_made s.register (Calm.moves c s v).state.register (event_of v)) then Some (Step.spec_set c s l) else None)
 
   by_tables : (l e : ℕ) (k : Option Spec) (a b x z : Option Spec) → find e (epochs_of s.register l).specs ≡ a → Like a b → (b ≡ None → x ≡ or_else a k) → ((p : Spec) → b ≡ Some p → z ≡ b) → Pair a b x z → z ≡ or_else b k
   by_tables l e k None None x z f h g u (inl q) = q.1 ∙ (sym q.0 ∙ g refl)
@@ -85,35 +87,35 @@ module _ (c : Config) (s : State) (v : Event) (N : NamesOnce s) (E : EachClosed 
     by_like None u (Some x) q h = absurd h
     by_like (Some x) u m q h = ((E l).low e x u).1
 
-  kept : AllKept s.register (Step.happens c s v).state.register → (l e : ℕ) → Now l e
-  kept h l e = let k : Option Spec = if makes l e (epoch_made s.register (Step.happens c s v).state.register v) then Some (Step.spec_set c s l) else None in
-      by_tables l e k (find e (epochs_of s.register l).specs) (find e (epochs_of s.register l).swapped) (find e (epochs_of (Step.happens c s v).state.register l).specs) (find e (epochs_of (Step.happens c s v).state.register l).swapped) refl ((E l).like e) (λ q. O l e) (λ p q. (h l).old e (low l e p q)) ((h l).found e)
-      ∙ ap (λ o. or_else o k) (sym (ap (λ x. swapped_all l e x (find e (epochs_of s.register l).swapped)) (kept_none s (Step.happens c s v).state.register v h) ∙ none_all l e (find e (epochs_of s.register l).swapped)))
+  kept : AllKept s.register (Calm.moves c s v).state.register → (l e : ℕ) → Now l e
+  kept h l e = let k : Option Spec = if makes l e (epoch_made s.register (Calm.moves c s v).state.register (event_of v)) then Some (Step.spec_set c s l) else None in
+      by_tables l e k (find e (epochs_of s.register l).specs) (find e (epochs_of s.register l).swapped) (find e (epochs_of (Calm.moves c s v).state.register l).specs) (find e (epochs_of (Calm.moves c s v).state.register l).swapped) refl ((E l).like e) (λ q. O l e) (λ p q. (h l).old e (low l e p q)) ((h l).found e)
+      ∙ ap (λ o. or_else o k) (sym (ap (λ x. swapped_all l e x (find e (epochs_of s.register l).swapped)) (kept_none s (Calm.moves c s v).state.register (event_of v) h) ∙ none_all l e (find e (epochs_of s.register l).swapped)))
 
-  module _ (k : Swapping c s v (Step.happens c s v).state.register) where
+  module _ (k : Swapping c s v (Calm.moves c s v).state.register) where
     abbrev after : Epochs
     after = swapped_epochs (epochs_of s.register k.log) (log_of (node_at s k.node).plain k.log).lost_to k.other k.node
 
-    here : epochs_of (Step.happens c s v).state.register k.log ≡ swapped_epochs (epochs_of s.register k.log) (log_of (node_at s k.node).plain k.log).lost_to k.other k.node
-    here = epochs_same (with_epochs s.register k.log after) (Step.happens c s v).state.register k.log k.made ∙ elim (epochs_put s.register k.log k.log after) [ inl a ↦ a.1 | inr a ↦ absurd (a.0 refl) ]
+    here : epochs_of (Calm.moves c s v).state.register k.log ≡ swapped_epochs (epochs_of s.register k.log) (log_of (node_at s k.node).plain k.log).lost_to k.other k.node
+    here = epochs_same (with_epochs s.register k.log after) (Calm.moves c s v).state.register k.log k.made ∙ elim (epochs_put s.register k.log k.log after) [ inl a ↦ a.1 | inr a ↦ absurd (a.0 refl) ]
 
-    made_so : swap_made s.register (Step.happens c s v).state.register v ≡ Some (record { log = k.log; specs = (epochs_of (Step.happens c s v).state.register k.log).swapped })
-    made_so = ap (swap_made s.register (Step.happens c s v).state.register) k.event ∙ cond_both (nat_lt (epochs_of s.register k.log).swaps (epochs_of (Step.happens c s v).state.register k.log).swaps) _ None (λ (o : Option Swapped). o ≡ Some (record { log = k.log; specs = (epochs_of (Step.happens c s v).state.register k.log).swapped }))
-        (λ u. refl) (λ u. absurd (let a = ltb-false _ _ u in let b : (epochs_of (Step.happens c s v).state.register k.log).swaps ≡ (epochs_of s.register k.log).swaps + 1 = ap (λ (x : Epochs). x.swaps) here in omega arith))
+    made_so : swap_made s.register (Calm.moves c s v).state.register (event_of v) ≡ Some (record { log = k.log; specs = (epochs_of (Calm.moves c s v).state.register k.log).swapped })
+    made_so = ap (swap_made s.register (Calm.moves c s v).state.register) (ap event_of k.event) ∙ cond_both (nat_lt (epochs_of s.register k.log).swaps (epochs_of (Calm.moves c s v).state.register k.log).swaps) _ None (λ (o : Option Swapped). o ≡ Some (record { log = k.log; specs = (epochs_of (Calm.moves c s v).state.register k.log).swapped }))
+        (λ u. refl) (λ u. absurd (let a = ltb-false _ _ u in let b : (epochs_of (Calm.moves c s v).state.register k.log).swaps ≡ (epochs_of s.register k.log).swaps + 1 = ap (λ (x : Epochs). x.swaps) here in omega arith))
 
-    made_none : epoch_made s.register (Step.happens c s v).state.register v ≡ None
-    made_none = ap (epoch_made s.register (Step.happens c s v).state.register) k.event
+    made_none : epoch_made s.register (Calm.moves c s v).state.register (event_of v) ≡ None
+    made_none = ap (epoch_made s.register (Calm.moves c s v).state.register) (ap event_of k.event)
 
-    no_epoch : (l e : ℕ) (o : Option Spec) → or_else o (if makes l e (epoch_made s.register (Step.happens c s v).state.register v) then Some (Step.spec_set c s l) else None) ≡ o
+    no_epoch : (l e : ℕ) (o : Option Spec) → or_else o (if makes l e (epoch_made s.register (Calm.moves c s v).state.register (event_of v)) then Some (Step.spec_set c s l) else None) ≡ o
     no_epoch l e o = ap (λ m. or_else o (if makes l e m then Some (Step.spec_set c s l) else None)) made_none ∙ no_else o
 
     swapped : (l e : ℕ) → Now l e
     swapped l e = elim (epochs_put s.register k.log l after) [
-      | inl a ↦ subst (λ j. Now j e) (sym a.0) (at_log k.log e (epochs_of (Step.happens c s v).state.register k.log).swapped (nat_le e (closed_upto (epochs_of s.register k.log) (log_of (node_at s k.node).plain k.log).lost_to)) k.other k.node (find e (epochs_of s.register k.log).swapped)
+      | inl a ↦ subst (λ j. Now j e) (sym a.0) (at_log k.log e (epochs_of (Calm.moves c s v).state.register k.log).swapped (nat_le e (closed_upto (epochs_of s.register k.log) (log_of (node_at s k.node).plain k.log).lost_to)) k.other k.node (find e (epochs_of s.register k.log).swapped)
           (ap (λ (x : Epochs). find e x.swapped) here ∙ find-swapped (closed_upto (epochs_of s.register k.log) (log_of (node_at s k.node).plain k.log).lost_to) k.other k.node e (epochs_of s.register k.log).swapped)
           ∙ (ap (λ x. swapped_all k.log e x (find e (epochs_of s.register k.log).swapped)) (sym made_so) ∙ sym (no_epoch k.log e _)))
-      | inr a ↦ ap (λ (x : Epochs). find e x.swapped) (epochs_same (with_epochs s.register k.log after) (Step.happens c s v).state.register l k.made ∙ a.1)
-          ∙ (sym (at_other l e (record { log = k.log; specs = (epochs_of (Step.happens c s v).state.register k.log).swapped }) (find e (epochs_of s.register l).swapped) (λ q. a.0 (sym q))) ∙ (ap (λ x. swapped_all l e x (find e (epochs_of s.register l).swapped)) (sym made_so) ∙ sym (no_epoch l e _)))
+      | inr a ↦ ap (λ (x : Epochs). find e x.swapped) (epochs_same (with_epochs s.register k.log after) (Calm.moves c s v).state.register l k.made ∙ a.1)
+          ∙ (sym (at_other l e (record { log = k.log; specs = (epochs_of (Calm.moves c s v).state.register k.log).swapped }) (find e (epochs_of s.register l).swapped) (λ q. a.0 (sym q))) ∙ (ap (λ x. swapped_all l e x (find e (epochs_of s.register l).swapped)) (sym made_so) ∙ sym (no_epoch l e _)))
     ]
 
   now_step : (l e : ℕ) → Now l e
@@ -126,16 +128,16 @@ AsNow c hs w = (l e : ℕ) → spec_now l e hs (first_spec c l) ≡ find e (epoc
 abbrev pub AllNow : Config → List Happened → World → Type 0
 AllNow c hs w = (NamesOnce w.state × AsFixed c hs w) × (EachClosed w.state.register × AsNow c hs w)
 
-as_step : (c : Config) (hs : List Happened) (w : World) (e : Event) → NamesOnce w.state → AsFixed c hs w → EachClosed w.state.register → AsNow c hs w → AsNow c (hs ++ happened c w.state e ∷ []) (next_world c w e)
+as_step : (c : Config) (hs : List Happened) (w : World) (e : Move) → NamesOnce w.state → AsFixed c hs w → EachClosed w.state.register → AsNow c hs w → AsNow c (hs ++ step_happened c w.state e ∷ []) (after_step c w e)
 unfolding finish
-as_step c hs w e N F E A l x = now_end l x hs (happened c w.state e) (first_spec c l)
-    ∙ ((λ i. or_else (swapped_all l x (happened c w.state e).swapped (A l x i)) (if makes l x (happened c w.state e).made then Some (F.set l i) else None)) ∙ sym (now_step c w.state e N E (made_step c w.state e (λ k y t f. ((F.specs k).low y t f).1)) l x))
+as_step c hs w e N F E A l x = now_end l x hs (step_happened c w.state e) (first_spec c l)
+    ∙ ((λ i. or_else (swapped_all l x (step_happened c w.state e).swapped (A l x i)) (if makes l x (step_happened c w.state e).made then Some (F.set l i) else None)) ∙ sym (now_step c w.state e N E (made_step c w.state e (λ k y t f. ((F.specs k).low y t f).1)) l x))
 
 start_now : (c : Config) → EachClosed (begin c).state.register × AsNow c [] (begin c)
 unfolding find
 start_now c = (start_each, λ l e. refl)
 
-each_next : (c : Config) (w : World) (e : Event) → NamesOnce w.state → EachClosed w.state.register → EachClosed (next_world c w e).state.register
+each_next : (c : Config) (w : World) (e : Move) → NamesOnce w.state → EachClosed w.state.register → EachClosed (after_step c w e).state.register
 unfolding finish
 each_next c w e N E = each_closed c w.state e N E
 

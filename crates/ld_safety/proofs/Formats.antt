@@ -1,14 +1,13 @@
 -- The generation of each line of a format was drawn in its step, so no two formats of a node have the same.
 use Rattle.std.proofs.Common.{◌≡◌, ◌∙◌, ◌≤◌, ◌<◌, ℕ, inl, inr, sym, subst, Bool, true, false, cond, List, [], ◌∷◌, ◌++◌, Option, Some, None, arith}
 use Rattle.ld_config.specs.declared.config.Config.{Config}
-use Rattle.ld_schedule.specs.declared.event.Event.{Event}
 use Rattle.ld_transcript.specs.declared.line.Line.{Line}
 use Rattle.ld_transcript.specs.declared.line.Line.TheVariants as lines
 use Rattle.ld_ids.specs.declared.set.Spec.{Spec}
 use Rattle.ld_msg.specs.declared.msg.Msg.{Msg}
 use Rattle.ld_msg.specs.declared.msg.Body.{Body}
 use Rattle.ld_msg.specs.Register.{Register, Granted, generation_of, epochs_of, epochs_in, draw}
-use Rattle.ld_msg.specs.Sequencer.{called, on_reply, on_retry}
+use Rattle.ld_msg.specs.Sequencer.{called, on_reply}
 use Rattle.ld_op.specs.declared.op.Op.{Op}
 use Rattle.ld_op.specs.declared.op.Op.TheVariants as ops
 use Rattle.ld_op.specs.Ticks.{Ticked, Cleans, Rebuilt, Asks, Nothing}
@@ -17,22 +16,24 @@ use Rattle.ld_machine.specs.Disk.{Node, Kept, Written, DiskFailed, Crashed, Jour
 use Rattle.ld_machine.specs.State.{State, Done, finish, node_at, with_node, with_register}
 use Rattle.ld_machine.specs.Facts.{Happened, Writes}
 use Rattle.ld_machine.specs.World.{World, In}
-use Rattle.ld_machine.specs.Run.{next_world}
+use Rattle.ld_machine.specs.Run.{after_step}
 use Rattle.ld_machine.specs.Step as Step
 use Rattle.ld_safety.proofs.Lists.{not_none, In-append}
-use Rattle.ld_safety.proofs.Traces.{Keeps, happened, beside_kept}
+use Rattle.ld_safety.proofs.Traces.{Keeps, step_happened, beside_kept}
 use Rattle.ld_safety.proofs.Steps.{writes_cases}
 use Rattle.ld_safety.proofs.Lines.{Group, OfNodes, OfActs, OfItems, AllOf, acted_of, items_of, line_of}
-use Rattle.ld_safety.proofs.Events.{NamesOnce, Cases, dispatch, is_quiet, refreshed, loaded}
+use Rattle.ld_safety.proofs.Events.{retry_call, announced, NamesOnce, Cases, dispatch, is_quiet, refreshed, loaded}
 use Rattle.ld_safety.proofs.Base.{Base, base_kept}
 use Rattle.ld_safety.proofs.Generations.{generations_step}
 use Rattle.ld_safety.proofs.LostNodes.{drawn_above}
+use Rattle.ld_machine.specs.Calm as Calm
+use Rattle.ld_machine.specs.Calm.{Move}
 
 -- the formats of these lines draw generations above all before
 FormatsIn : Register → Register → List Line → Type 0
 FormatsIn r k ls = (n g : ℕ) → In (lines.NodeFormatted n g) ls → (generation_of r n < g) × (g ≤ generation_of k n)
 
-module _ (c : Config) (s : State) (e : Event) where
+module _ (c : Config) (s : State) (e : Move) where
   one_other : (r k : Register) (x : Line) → ((n g : ℕ) → lines.NodeFormatted n g ≡ x → ⊥) → FormatsIn r k (x ∷ [])
   unfolding FormatsIn
   one_other r k x h n g (inl q) = absurd (h n g q)
@@ -99,9 +100,9 @@ module _ (c : Config) (s : State) (e : Event) where
 
   format_cases : Cases c s e (λ d m. FormatsIn s.register d.state.register d.lines)
   format_cases = record {
-    still = λ f i. none _ _;
+    still = λ f older i. none _ _;
     says = λ x q. quiet_one _ _ x q;
-    node_hears = λ f n m i t v o. handled f n m (Step.releases (node_at s n) m.log m.body) (Step.node_handles n (node_at s n) m).op (Step.node_handles n (node_at s n) m).answer;
+    node_hears = λ f older n m i t v o. handled f n m (Step.releases (node_at s n) m.log m.body) (Step.node_handles n (node_at s n) m).op (Step.node_handles n (node_at s n) m).answer;
     loads = λ n ls q b o. quiets _ _ ls q;
     draw_fails = λ n b. one_other _ _ (lines.NodeRefusedRegister n) (λ m g q. cc);
     formats = λ n r g b v i. format_lines n r (keep_end (node_at (with_register (loaded s n) r) n) (ops.Format (generation_of r n) (epochs_in r.logs))) i;
@@ -111,15 +112,15 @@ module _ (c : Config) (s : State) (e : Event) where
     faults = λ n f o. none _ _;
     sets = λ l r x set h. one_other _ _ (lines.Set l r x set) (λ m g q. cc);
     arms = λ k done o. none _ _;
-    hears = λ f name q m i t l v o. others _ _ OfActs _ (λ h. cc) (acted_of name q (called (looks_at c s.register q.log) s.register (on_reply (looks_at c s.register q.log) q (Step.sender_node m.from) m.body) (on_reply (looks_at c s.register q.log) q (Step.sender_node m.from) m.body).tries).acts);
-    retries = λ name q v o. others _ _ OfActs _ (λ h. cc) (acted_of name q (called (looks_at c s.register q.log) s.register (on_retry (looks_at c s.register q.log) q) (on_retry (looks_at c s.register q.log) q).tries).acts);
+    hears = λ f older name q m i t l v o. others _ _ OfActs _ (λ h. cc) (acted_of name q (called (looks_at c s.register q.log) s.register (on_reply (looks_at c s.register q.log) q (Step.sender_node m.from) m.body) (on_reply (looks_at c s.register q.log) q (Step.sender_node m.from) m.body).tries).acts);
+    retries = λ again name q v o. others _ _ OfActs _ (λ h. cc) (acted_of name q (announced again (retry_call c s q)).acts);
     appends = λ name q p v a i. one_other _ _ (lines.Appended name _) (λ m g q. cc);
     trims = λ name q t v b. one_other _ _ (lines.Trimmed name t) (λ m g q. cc);
     drops = λ name q v o. none _ _;
     activates = λ name l r g n i x. one_other _ _ (lines.Active name _) (λ m g q. cc);
     swaps = λ n m l x r q i. quiet_one _ _ x q;
     activate_fails = λ name l x g q. quiet_one _ _ x q;
-    answers = λ f name d m i t v o. others _ _ OfItems _ (λ h. cc) (items_of _ name _ _);
+    answers = λ f older name d m i t v o. others _ _ OfItems _ (λ h. cc) (items_of _ name _ _);
     polls = λ name d v o. none _ _;
     opens = λ style name l from until o x. none _ _;
   }
@@ -129,28 +130,28 @@ pub record FormatsOnce (hs : List Happened) (w : World) : Type 0 where
   pub drawn : (n g k : ℕ) → Writes hs k (lines.NodeFormatted n g) → g ≤ generation_of w.state.register n
   pub once : (n g j k : ℕ) → Writes hs j (lines.NodeFormatted n g) → Writes hs k (lines.NodeFormatted n g) → j ≡ k
 
-formats_step : (c : Config) (hs : List Happened) (w : World) (e : Event) → NamesOnce w.state → FormatsOnce hs w → FormatsOnce (hs ++ happened c w.state e ∷ []) (next_world c w e)
+formats_step : (c : Config) (hs : List Happened) (w : World) (e : Move) → NamesOnce w.state → FormatsOnce hs w → FormatsOnce (hs ++ step_happened c w.state e ∷ []) (after_step c w e)
 unfolding finish FormatsIn
 formats_step c hs w e N F = record { drawn = drawn_now; once = once_now } where
-  lines_now : FormatsIn w.state.register (Step.happens c w.state e).state.register (Step.happens c w.state e).lines
+  lines_now : FormatsIn w.state.register (Calm.moves c w.state e).state.register (Calm.moves c w.state e).lines
   lines_now = dispatch c w.state e (λ d m. FormatsIn w.state.register d.state.register d.lines) N (format_cases c w.state e)
 
-  new_line : (n g : ℕ) → In (lines.NodeFormatted n g) (happened c w.state e).lines → (generation_of w.state.register n < g) × (g ≤ generation_of (next_world c w e).state.register n)
-  new_line n g i = lines_now n g (line_of (Step.happens c w.state e) (lines.NodeFormatted n g) (λ h. cc) i)
+  new_line : (n g : ℕ) → In (lines.NodeFormatted n g) (step_happened c w.state e).lines → (generation_of w.state.register n < g) × (g ≤ generation_of (after_step c w e).state.register n)
+  new_line n g i = lines_now n g (line_of (Calm.moves c w.state e) (lines.NodeFormatted n g) (λ h. cc) i)
 
-  drawn_now : (n g k : ℕ) → Writes (hs ++ happened c w.state e ∷ []) k (lines.NodeFormatted n g) → g ≤ generation_of (next_world c w e).state.register n
-  drawn_now n g k x = elim (writes_cases hs (happened c w.state e) k _ x) [
+  drawn_now : (n g k : ℕ) → Writes (hs ++ step_happened c w.state e ∷ []) k (lines.NodeFormatted n g) → g ≤ generation_of (after_step c w e).state.register n
+  drawn_now n g k x = elim (writes_cases hs (step_happened c w.state e) k _ x) [
     | inl a ↦ (let z = F.drawn n g k a in let u = generations_step c w e N n in omega arith)
     | inr a ↦ (new_line n g a.1).1
   ]
 
-  once_now : (n g j k : ℕ) → Writes (hs ++ happened c w.state e ∷ []) j (lines.NodeFormatted n g) → Writes (hs ++ happened c w.state e ∷ []) k (lines.NodeFormatted n g) → j ≡ k
-  once_now n g j k x y = elim (writes_cases hs (happened c w.state e) j _ x) [
-    | inl a ↦ elim (writes_cases hs (happened c w.state e) k _ y) [
+  once_now : (n g j k : ℕ) → Writes (hs ++ step_happened c w.state e ∷ []) j (lines.NodeFormatted n g) → Writes (hs ++ step_happened c w.state e ∷ []) k (lines.NodeFormatted n g) → j ≡ k
+  once_now n g j k x y = elim (writes_cases hs (step_happened c w.state e) j _ x) [
+    | inl a ↦ elim (writes_cases hs (step_happened c w.state e) k _ y) [
       | inl b ↦ F.once n g j k a b
       | inr b ↦ absurd (let z = F.drawn n g j a in let u = (new_line n g b.1).0 in omega arith)
     ]
-    | inr a ↦ elim (writes_cases hs (happened c w.state e) k _ y) [
+    | inr a ↦ elim (writes_cases hs (step_happened c w.state e) k _ y) [
       | inl b ↦ absurd (let z = F.drawn n g k b in let u = (new_line n g a.1).0 in omega arith)
       | inr b ↦ a.0 ∙ sym b.0
     ]

@@ -4,7 +4,6 @@ use Rattle.std.specs.Option.{unwrap_or}
 use Rattle.ld_table.specs.Table.{find}
 use Rattle.ld_table.proofs.Laws.{put_cases}
 use Rattle.ld_config.specs.declared.config.Config.{Config}
-use Rattle.ld_schedule.specs.declared.event.Event.{Event}
 use Rattle.ld_ids.specs.declared.set.Spec.{Spec}
 use Rattle.ld_msg.specs.declared.msg.Summary.{Summary}
 use Rattle.ld_msg.specs.declared.msg.Msg.{Msg}
@@ -16,12 +15,13 @@ use Rattle.ld_msg.specs.Register.{swap, Register, View, Changed, generation_of, 
 use Rattle.ld_msg.specs.Sequencer.{Acts, called, Attempt}
 use Rattle.ld_machine.specs.State.{State, finish, node_at, with_node}
 use Rattle.ld_machine.specs.World.{World}
-use Rattle.ld_machine.specs.Run.{next_world}
+use Rattle.ld_machine.specs.Run.{after_step}
 use Rattle.ld_machine.specs.Step as Step
 use Rattle.ld_safety.proofs.Events.{NamesOnce, Cases, dispatch, refreshed}
 use Rattle.ld_safety.proofs.RegisterSteps.{Drawn, activate_leaves, close_leaves, draw_leaves, swap_leaves}
 use Rattle.ld_safety.proofs.NodeCases.{node_cases}
 use Rattle.ld_safety.proofs.LostNodes.{LostIn, lost_keeps}
+use Rattle.ld_machine.specs.Calm.{Move}
 
 -- no generation falls
 abbrev pub NoneFalls : Register → Register → Type 0
@@ -52,7 +52,7 @@ pub call_generations : (r : Register) (looks : ℕ → View) (a : Acts) (ts : Li
 call_generations r looks a [] = same_generations r r refl
 call_generations r looks a (t ∷ ts) = close_generations r a.sequencer.log t.epoch t.summary t.short
 
-module _ (c : Config) (s : State) (e : Event) where
+module _ (c : Config) (s : State) (e : Move) where
   same : NoneFalls s.register s.register
   same = same_generations s.register s.register refl
 
@@ -68,9 +68,9 @@ module _ (c : Config) (s : State) (e : Event) where
 
   generation_cases : Cases c s e (λ d m. NoneFalls s.register d.state.register)
   generation_cases = record {
-    still = λ f i. same;
+    still = λ f older i. same;
     says = λ x q. same;
-    node_hears = λ f n m i t v o. handled f n m (Step.releases (node_at s n) m.log m.body) (Step.node_handles n (node_at s n) m).op (Step.node_handles n (node_at s n) m).answer;
+    node_hears = λ f older n m i t v o. handled f n m (Step.releases (node_at s n) m.log m.body) (Step.node_handles n (node_at s n) m).op (Step.node_handles n (node_at s n) m).answer;
     loads = λ n ls q b o. same;
     draw_fails = λ n b. draw_generations s.register n;
     formats = λ n r g b v i. subst (λ (d : Changed). NoneFalls s.register d.register) i (draw_generations s.register n);
@@ -80,21 +80,21 @@ module _ (c : Config) (s : State) (e : Event) where
     faults = λ n f o. same;
     sets = λ l r x set h. same;
     arms = λ k done o. same_generations s.register (Step.armed s.register k done) refl;
-    hears = λ f name q m i t l v o. call_generations s.register _ _ _;
-    retries = λ name q v o. call_generations s.register _ _ _;
+    hears = λ f older name q m i t l v o. call_generations s.register _ _ _;
+    retries = λ again name q v o. call_generations s.register _ _ _;
     appends = λ name q p v a i. same;
     trims = λ name q t v b. same;
     drops = λ name q v o. same;
     activates = λ name l r g n i x. subst (λ (d : Changed). NoneFalls s.register d.register) i (activate_generations s.register l (Step.spec_set c s l));
     swaps = λ n m l x r q i. swap_generations s.register l _ m n;
     activate_fails = λ name l x g q. activate_generations s.register l (Step.spec_set c s l);
-    answers = λ f name d m i t v o. same;
+    answers = λ f older name d m i t v o. same;
     polls = λ name d v o. same;
     opens = λ style name l from until o x. same;
   }
 
 -- a step draws or keeps each generation
-pub generations_step : (c : Config) (w : World) (e : Event) → NamesOnce w.state → NoneFalls w.state.register (next_world c w e).state.register
+pub generations_step : (c : Config) (w : World) (e : Move) → NamesOnce w.state → NoneFalls w.state.register (after_step c w e).state.register
 unfolding finish
 generations_step c w e N = dispatch c w.state e (λ d m. NoneFalls w.state.register d.state.register) N (generation_cases c w.state e)
 
@@ -112,7 +112,7 @@ back_on u v w a b = record {
   lost = λ y l e g h z. a.lost y l e g h (b.lost y l e g (let x = a.generations y in omega arith) z);
 }
 
-pub back_step : (c : Config) (w : World) (e : Event) → NamesOnce w.state → Back w (next_world c w e)
+pub back_step : (c : Config) (w : World) (e : Move) → NamesOnce w.state → Back w (after_step c w e)
 unfolding finish
 back_step c w e N = record {
   generations = generations_step c w e N;

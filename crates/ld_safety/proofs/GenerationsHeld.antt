@@ -5,7 +5,6 @@ use Rattle.ld_table.specs.Table.{find}
 use Rattle.ld_table.proofs.Laws.{put_cases, find-put_same}
 use Rattle.ld_ids.specs.Set.{members}
 use Rattle.ld_config.specs.declared.config.Config.{Config}
-use Rattle.ld_schedule.specs.declared.event.Event.{Event}
 use Rattle.ld_msg.specs.declared.msg.Msg.{Msg}
 use Rattle.ld_msg.specs.declared.msg.Body.{Body}
 use Rattle.ld_op.specs.declared.op.Op.{Op}
@@ -18,13 +17,14 @@ use Rattle.ld_machine.specs.Config.{looks_at}
 use Rattle.ld_machine.specs.Disk.{Node, new_node, keep_op, load}
 use Rattle.ld_machine.specs.State.{State, start, new_nodes, finish, node_at, with_node, with_register}
 use Rattle.ld_machine.specs.World.{World, MayHold}
-use Rattle.ld_machine.specs.Run.{next_world}
+use Rattle.ld_machine.specs.Run.{after_step}
 use Rattle.ld_machine.specs.Step as Step
 use Rattle.ld_safety.proofs.Lists.{not_none}
 use Rattle.ld_safety.proofs.Events.{swapped_by, NamesOnce, Cases, dispatch, refreshed, loaded}
 use Rattle.ld_safety.proofs.HoldSteps.{is_format, same_generation, handled_plain}
 use Rattle.ld_safety.proofs.LostNodes.{kept_from, loaded_from, released_from}
 use Rattle.ld_safety.proofs.Generations.{NoneFalls, swap_generations, activate_generations, draw_generations, call_generations}
+use Rattle.ld_machine.specs.Calm.{Move}
 
 -- each plain state that a load may find at the node
 abbrev pub DrawnAt : Register → ℕ → Node → Type 0
@@ -55,7 +55,7 @@ blank_drawn : (r : Register) (y : ℕ) → DrawnAt r y new_node
 blank_drawn r y p (inl q) = subst (λ (z : Plain). z.generation ≤ generation_of r y) (sym q) (omega arith)
 blank_drawn r y p (inr q) = absurd (not_none q.1)
 
-module _ (c : Config) (s : State) (e : Event) (A : AllDrawn s.register s) where
+module _ (c : Config) (s : State) (e : Move) (A : AllDrawn s.register s) where
   load_drawn : (n : ℕ) → AllDrawn s.register (loaded s n)
   load_drawn n = put_drawn s.register s n (load (node_at s n)) (λ p h. A n p (loaded_from (node_at s n) p h)) A
 
@@ -87,9 +87,9 @@ module _ (c : Config) (s : State) (e : Event) (A : AllDrawn s.register s) where
 
   drawn_cases : Cases c s e (λ d m. AllDrawn d.state.register d.state)
   drawn_cases = record {
-    still = λ f i. A;
+    still = λ f older i. A;
     says = λ x q. A;
-    node_hears = λ f n m i t v o. subst (λ r. AllDrawn r (Step.to_up_node (refreshed s f) n m).state) (sym (handled_register f n m (Step.releases (node_at s n) m.log m.body) (Step.node_handles n (node_at s n) m).op (Step.node_handles n (node_at s n) m).answer))
+    node_hears = λ f older n m i t v o. subst (λ r. AllDrawn r (Step.to_up_node (refreshed s f) n m).state) (sym (handled_register f n m (Step.releases (node_at s n) m.log m.body) (Step.node_handles n (node_at s n) m).op (Step.node_handles n (node_at s n) m).answer))
         (handled f n m (Step.node_handles n (node_at s n) m).op (Step.node_handles n (node_at s n) m).answer refl);
     loads = λ n ls q b o. load_drawn n;
     draw_fails = λ n b. up_drawn s.register (draw s.register n).register (loaded s n) (draw_generations s.register n) (load_drawn n);
@@ -100,20 +100,20 @@ module _ (c : Config) (s : State) (e : Event) (A : AllDrawn s.register s) where
     faults = λ n f o. put_drawn s.register s n (Step.with_fault (node_at s n) f) (A n) A;
     sets = λ l r x set h. A;
     arms = λ k done o. A;
-    hears = λ f name q m i t l v o. let a = on_reply (looks_at c s.register q.log) q (Step.sender_node m.from) m.body in up_drawn s.register (called (looks_at c s.register q.log) s.register a a.tries).register s (call_generations s.register (looks_at c s.register q.log) a a.tries) A;
-    retries = λ name q v o. let a = on_retry (looks_at c s.register q.log) q in up_drawn s.register (called (looks_at c s.register q.log) s.register a a.tries).register s (call_generations s.register (looks_at c s.register q.log) a a.tries) A;
+    hears = λ f older name q m i t l v o. let a = on_reply (looks_at c s.register q.log) q (Step.sender_node m.from) m.body in up_drawn s.register (called (looks_at c s.register q.log) s.register a a.tries).register s (call_generations s.register (looks_at c s.register q.log) a a.tries) A;
+    retries = λ again name q v o. let a = on_retry (looks_at c s.register q.log) q in up_drawn s.register (called (looks_at c s.register q.log) s.register a a.tries).register s (call_generations s.register (looks_at c s.register q.log) a a.tries) A;
     appends = λ name q p v a i. A;
     trims = λ name q t v b. A;
     drops = λ name q v o. A;
     activates = λ name l r g n i x. up_drawn s.register r s (subst (λ (d : Changed). NoneFalls s.register d.register) i (activate_generations s.register l (Step.spec_set c s l))) A;
     swaps = λ n m l x r q i. up_drawn s.register (swapped_by s n m l).register s (swap_generations s.register l _ m n) A;
     activate_fails = λ name l x g q. up_drawn s.register (activate s.register l (Step.spec_set c s l)).register s (activate_generations s.register l (Step.spec_set c s l)) A;
-    answers = λ f name d m i t v o. A;
+    answers = λ f older name d m i t v o. A;
     polls = λ name d v o. A;
     opens = λ style name l from until o x. A;
   }
 
-pub drawn_step : (c : Config) (w : World) (e : Event) → NamesOnce w.state → AllDrawn w.state.register w.state → AllDrawn (next_world c w e).state.register (next_world c w e).state
+pub drawn_step : (c : Config) (w : World) (e : Move) → NamesOnce w.state → AllDrawn w.state.register w.state → AllDrawn (after_step c w e).state.register (after_step c w e).state
 unfolding finish
 drawn_step c w e N A = dispatch c w.state e (λ d m. AllDrawn d.state.register d.state) N (drawn_cases c w.state e A)
 

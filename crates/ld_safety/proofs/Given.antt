@@ -1,7 +1,6 @@
 -- Each record anywhere is one that was appended, and each trim anywhere is one that was issued.
 use Rattle.std.proofs.Common.{Bool, ◌≡◌, ◌∙◌, ◌⊎◌, ◌≤◌, ◌<◌, ℕ, ◌-◌, inl, inr, refl, ap, sym, subst, true, false, List, [], ◌∷◌, ◌++◌, Option, Some, None, arith}
 use Rattle.ld_lsn.specs.Number.{epoch_of, esn_of, numbered, last_esn}
-use Rattle.ld_schedule.specs.declared.event.Event.{Event}
 use Rattle.ld_msg.specs.declared.msg.What.{What}
 use Rattle.ld_msg.specs.declared.msg.What.TheVariants.{Rec, Hole, Bridge, Plug, Withheld}
 use Rattle.ld_msg.specs.declared.msg.Entry.{Entry}
@@ -16,6 +15,7 @@ use Rattle.ld_safety.proofs.Numbers.{log_grows}
 use Rattle.ld_safety.proofs.Plans.{best_of, plan_items, plan_shape, top_most, trim_place_most, content_no_withheld}
 use Rattle.ld_msg.specs.Register.{Register, epoch_limit}
 use Rattle.ld_machine.specs.Invariant.{is_withheld}
+use Rattle.ld_machine.specs.Calm.{Move}
 
 -- a record was appended by one of the steps so far
 abbrev pub AppendedBy : List Happened → ℕ → ℕ → List ℕ → Type 0
@@ -52,19 +52,19 @@ abbrev pub GivenSummary : List Happened → ℕ → ℕ → Summary → Type 0
 GivenSummary hs l e y = GivenTrim hs l y.trim × (e ≤ epoch_limit)
 
 -- ---- longer runs ----
-pub of_log_grows : (hs : List Happened) (old : Register) (e : Event) (d : Done) (l : ℕ) (s : List ℕ) → OfLog hs l s → OfLog (hs ++ told old e d ∷ []) l s
+pub of_log_grows : (hs : List Happened) (old : Register) (e : Move) (d : Done) (l : ℕ) (s : List ℕ) → OfLog hs l s → OfLog (hs ++ told old e d ∷ []) l s
 of_log_grows hs old e d l s h = log_grows s hs (told old e d) ∙ or_else_some (sequencer_log s hs) _ l h
 
-pub appends_grows : (hs : List Happened) (old : Register) (e : Event) (d : Done) (l n k : ℕ) (p : List ℕ) → Appends hs l n p k → Appends (hs ++ told old e d ∷ []) l n p k
+pub appends_grows : (hs : List Happened) (old : Register) (e : Move) (d : Done) (l n k : ℕ) (p : List ℕ) → Appends hs l n p k → Appends (hs ++ told old e d ∷ []) l n p k
 appends_grows hs old e d l n k p a = record { name = a.name; here = a.here; at = slice_get_left a.here hs _ k a.at; asked = a.asked; told = writes_before hs (told old e d ∷ []) k _ a.told; of_log = of_log_grows hs old e d l a.name a.of_log }
 
-pub issues_grows : (hs : List Happened) (old : Register) (e : Event) (d : Done) (l t k : ℕ) → Issues hs l t k → Issues (hs ++ told old e d ∷ []) l t k
+pub issues_grows : (hs : List Happened) (old : Register) (e : Move) (d : Done) (l t k : ℕ) → Issues hs l t k → Issues (hs ++ told old e d ∷ []) l t k
 issues_grows hs old e d l t k a = record { name = a.name; told = writes_before hs (told old e d ∷ []) k _ a.told; of_log = of_log_grows hs old e d l a.name a.of_log }
 
-pub entry_grows : (hs : List Happened) (old : Register) (e : Event) (d : Done) (l b n : ℕ) (w : What) → GivenEntry hs l b n w → GivenEntry (hs ++ told old e d ∷ []) l b n w
+pub entry_grows : (hs : List Happened) (old : Register) (e : Move) (d : Done) (l b n : ℕ) (w : What) → GivenEntry hs l b n w → GivenEntry (hs ++ told old e d ∷ []) l b n w
 entry_grows hs old e d l b n w g = record { place = g.place; appended = λ p q. let a = g.appended p q in (a.0, appends_grows hs old e d l n a.0 p a.1); kept = g.kept }
 
-pub trim_grows : (hs : List Happened) (old : Register) (e : Event) (d : Done) (l t : ℕ) → GivenTrim hs l t → GivenTrim (hs ++ told old e d ∷ []) l t
+pub trim_grows : (hs : List Happened) (old : Register) (e : Move) (d : Done) (l t : ℕ) → GivenTrim hs l t → GivenTrim (hs ++ told old e d ∷ []) l t
 trim_grows hs old e d l t (inl h) = inl h
 trim_grows hs old e d l t (inr h) = inr (h.0, h.1, h.2, issues_grows hs old e d l h.1 h.0 h.3)
 

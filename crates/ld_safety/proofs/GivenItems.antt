@@ -29,7 +29,7 @@ use Rattle.ld_machine.specs.Run.{history}
 use Rattle.ld_machine.specs.Step as Step
 use Rattle.ld_safety.proofs.Lists.{Some_inj, not_none, cond_both, branch, In-append, only, first_left, slice_get_left, slice_get_below, In-slice_get}
 use Rattle.ld_safety.proofs.Members.{In_put}
-use Rattle.ld_safety.proofs.Traces.{Moment, happened, at_step}
+use Rattle.ld_safety.proofs.Traces.{Moment, step_happened, at_step}
 use Rattle.ld_safety.proofs.Events.{dispatch, Reading, is_quiet}
 use Rattle.ld_safety.proofs.Steps.{writes_before, filter_finish, finish_ends}
 use Rattle.ld_safety.proofs.ItemLines.{line_cases}
@@ -45,6 +45,8 @@ use Rattle.ld_batch.specs.Batch.{Messages, unpacked}
 use Rattle.ld_machine.specs.Invariant.{is_withheld}
 use Rattle.ld_safety.proofs.Withheld.{told_in, told_what}
 use Rattle.ld_safety.proofs.Batches.{RunAt, one_of, message_in, message_run, none_given}
+use Rattle.ld_machine.specs.Calm as Calm
+use Rattle.ld_machine.specs.Calm.{Move}
 
 -- ---- what is held ----
 pub entry_found : (s : ℕ) (es : List Entry) (w : What) → entry_at s es ≡ Some w → (e : Entry) × In e es × (e.number ≡ s) × (e.what ≡ w)
@@ -223,7 +225,7 @@ tiles_up : (until next end : ℕ) (is : List Interval) → TilesTo until next is
 tiles_up until next end [] t = omega arith
 tiles_up until next end (i ∷ is) t = let r = tiles_up until (i.high + 1) end is t.3 in let a = t.0 in let b = t.1 in omega arith
 
-module _ (c : Config) (hs : List Happened) (w : World) (e : Event) (B : Base c hs w) (G : Given c hs w.state) (A : AllGot c hs w) where
+module _ (c : Config) (hs : List Happened) (w : World) (e : Move) (B : Base c hs w) (G : Given c hs w.state) (A : AllGot c hs w) where
   positive : (name : List ℕ) (d : Reader) → find_named name w.state.readers ≡ Some d → 0 < d.next
   positive name d f = let g = got_of c hs w A name d f in let t = tiles_up d.until g.open_as.from d.next _ g.tiles in elim (cases_order g.open_as.from 0) [
     | inl z ↦ absurd (g.start z)
@@ -241,7 +243,7 @@ module _ (c : Config) (hs : List Happened) (w : World) (e : Event) (B : Base c h
       let k = answered (looks_at c w.state.register d.log) d y m.body (ReadGiven hs d.log) (given_keeps hs d.log (looks_at c w.state.register d.log) d y m.body (positive name d v.named) (G.readers name d v.named) o) in
       item_lines_given hs w.state _ name d _ (on_answer (looks_at c w.state.register d.log) d y m.body).items v.named k.items
 
-  pub lines_given : LinesGiven hs w.state (Step.happens c w.state e).lines
+  pub lines_given : LinesGiven hs w.state (Calm.moves c w.state e).lines
   lines_given = dispatch c w.state e (λ d m. LinesGiven hs w.state d.lines) B.0.0 (line_cases c w.state e (LinesGiven hs w.state) (other_lines hs w.state) (λ f name d m i t v o. reads_given f name d m i t v) (quiet_lines_given hs w.state))
 
 -- ---- the laws ----
@@ -257,15 +259,15 @@ pub record LineAt (c : Config) (P : List Happened → World → Type 0) (hs : Li
   pub before : List Happened
   pub after : List Happened
   pub world : World
-  pub event : Event
+  pub move : Move
   pub holds : P before world
   pub split : hs ≡ before ++ after
   pub place : length before ≡ k
-  pub there : In x (Step.happens c world.state event).lines
+  pub there : In x (Calm.moves c world.state move).lines
   pub here : Happened
   pub rest : List Happened
   pub at : slice_get hs k ≡ Some here
-  pub is : here ≡ happened c world.state event
+  pub is : here ≡ step_happened c world.state move
   pub tail : after ≡ here ∷ rest
 
 pub line_at : (c : Config) (P : List Happened → World → Type 0) (es : List Event) (k : ℕ) (x : Line) → ((j : ℕ) (h : Happened) → slice_get (history c es) j ≡ Some h → Moment c P (history c es) j h) → (group x ≡ OfMessages → ⊥) → Writes (history c es) k x → LineAt c P (history c es) k x
@@ -273,11 +275,11 @@ line_at c P es k x M n w = let m = M k w.0 w.1 in record {
   before = m.before;
   after = w.0 ∷ m.after;
   world = m.world;
-  event = m.event;
+  move = m.move;
   holds = m.holds;
   split = m.split;
   place = m.place;
-  there = line_of (Step.happens c m.world.state m.event) x n (subst (λ (h : Happened). In x h.lines) m.is (In-slice_get x w.0.lines w.2 w.3));
+  there = line_of (Calm.moves c m.world.state m.move) x n (subst (λ (h : Happened). In x h.lines) m.is (In-slice_get x w.0.lines w.2 w.3));
   here = w.0;
   rest = m.after;
   at = w.1;
@@ -295,23 +297,23 @@ module _ (c : Config) (es : List Event) where
   pub records : RecordsWereAppended c (history c es)
   records l n k p g =
       let a = line_at c (Reads c) es k _ (at_step c (Reads c) (tiles_kept c) es) (λ h. cc) g.told in
-      let x = (lines_given c a.before a.world a.event a.holds.0.0 a.holds.0.1 a.holds.1).records g.name n p a.there in
+      let x = (lines_given c a.before a.world a.move a.holds.0.0 a.holds.0.1 a.holds.1).records g.name n p a.there in
       let lg = same_log c a.before a.after (history c es) l g.name x.0 a.split (got_of c a.before a.world a.holds.1 g.name x.0 x.1) g.of_log in
       let y : AppendedBy a.before l n p = subst (λ k. AppendedBy a.before k n p) lg x.2 in
       let b = slice_get_below y.1.here a.before y.0 y.1.at in let z = a.place in
       (y.0, omega arith, subst (λ (hs : List Happened). Appends hs l n p y.0) (sym a.split) (appends_before a.before a.after l n y.0 p y.1))
 
   -- what a step gives a reader tiles
-  step_tiles : (k : ℕ) (x : Line) (name : List ℕ) (o : Opening) (a : LineAt c (Reads c) (history c es) k x) → opening c name (history c es) ≡ Some o → (low : ℕ) × TilesFrom o.until low (filter_map (interval_of name) (Step.happens c a.world.state a.event).lines)
+  step_tiles : (k : ℕ) (x : Line) (name : List ℕ) (o : Opening) (a : LineAt c (Reads c) (history c es) k x) → opening c name (history c es) ≡ Some o → (low : ℕ) × TilesFrom o.until low (filter_map (interval_of name) (Calm.moves c a.world.state a.move).lines)
   step_tiles k x name o a f =
       let t = subst (λ (hs : List Happened). TilesFrom o.until o.from (intervals name hs)) (a.split ∙ ap (λ (hs : List Happened). a.before ++ hs) a.tail) (items_tile c es name o f) in
       let p = tiles_part o.until o.from (intervals name a.before) (filter_map (interval_of name) a.here.lines) (intervals name a.rest) (subst (λ is. TilesFrom o.until o.from is) (flat_map-append (λ (h : Happened). filter_map (interval_of name) h.lines) a.before (a.here ∷ a.rest)) t) in
-      (p.0, subst (λ is. TilesFrom o.until p.0 is) (ap (λ (h : Happened). filter_map (interval_of name) h.lines) a.is ∙ filter_finish (interval_of name) (plain_interval name) (Step.happens c a.world.state a.event)) p.1)
+      (p.0, subst (λ is. TilesFrom o.until p.0 is) (ap (λ (h : Happened). filter_map (interval_of name) h.lines) a.is ∙ filter_finish (interval_of name) (plain_interval name) (Calm.moves c a.world.state a.move)) p.1)
 
   -- the step writes the run, and only plain lines behind the event's own
-  step_writes : (k n index : ℕ) (name m : List ℕ) (ms : List (List ℕ)) (a : LineAt c (Reads c) (history c es) k (lines.BatchMessage name n index m)) → RunAt (Step.happens c a.world.state a.event).lines name n ms → WritesBatch (history c es) k name n ms
+  step_writes : (k n index : ℕ) (name m : List ℕ) (ms : List (List ℕ)) (a : LineAt c (Reads c) (history c es) k (lines.BatchMessage name n index m)) → RunAt (Calm.moves c a.world.state a.move).lines name n ms → WritesBatch (history c es) k name n ms
   step_writes k n index name m ms a r =
-      let e = finish_ends (Step.happens c a.world.state a.event) _ a.there in record {
+      let e = finish_ends (Calm.moves c a.world.state a.move) _ a.there in record {
         here = a.here;
         at = a.at;
         before = r.before;
@@ -327,7 +329,7 @@ module _ (c : Config) (es : List Event) where
   pub batches : BatchesWereAppended c (history c es)
   batches l n k index m g =
       let a = line_at c (Reads c) es k _ (at_step c (Reads c) (tiles_kept c) es) (λ h. cc) g.told in
-      let x = (lines_given c a.before a.world a.event a.holds.0.0 a.holds.0.1 a.holds.1).batches g.name n index m a.there in
+      let x = (lines_given c a.before a.world a.move a.holds.0.0 a.holds.0.1 a.holds.1).batches g.name n index m a.there in
       let lg = same_log c a.before a.after (history c es) l g.name x.reader a.split (got_of c a.before a.world a.holds.1 g.name x.reader x.named) g.of_log in
       let y : AppendedBy a.before l n x.payload = subst (λ k. AppendedBy a.before k n x.payload) lg x.appended in
       let t = step_tiles k _ g.name g.of_log.0 a g.of_log.1 in
@@ -337,7 +339,7 @@ module _ (c : Config) (es : List Event) where
   pub trims : TrimsWereIssued c (history c es)
   trims l low high k g =
       let a = line_at c (Reads c) es k _ (at_step c (Reads c) (tiles_kept c) es) (λ h. cc) g.told in
-      let x = (lines_given c a.before a.world a.event a.holds.0.0 a.holds.0.1 a.holds.1).trims g.name low high a.there in
+      let x = (lines_given c a.before a.world a.move a.holds.0.0 a.holds.0.1 a.holds.1).trims g.name low high a.there in
       let lg = same_log c a.before a.after (history c es) l g.name x.0 a.split (got_of c a.before a.world a.holds.1 g.name x.0 x.1) g.of_log in
       let y : Issues a.before l x.2.1 x.2.0 = subst (λ z. Issues a.before z x.2.1 x.2.0) lg x.2.3 in
       let b = slice_get_below y.told.0 a.before x.2.0 y.told.1 in let z = a.place in

@@ -4,7 +4,6 @@ use Rattle.ld_table.specs.Table.{find}
 use Rattle.ld_table.specs.Named.{find_named}
 use Rattle.ld_lsn.specs.Number.{numbered}
 use Rattle.ld_config.specs.declared.config.Config.{Config}
-use Rattle.ld_schedule.specs.declared.event.Event.{Event}
 use Rattle.ld_schedule.specs.declared.event.Event.TheVariants as events
 use Rattle.ld_transcript.specs.declared.line.Line.TheVariants as lines
 use Rattle.ld_msg.specs.declared.msg.What.TheVariants.{Rec}
@@ -14,10 +13,9 @@ use Rattle.ld_msg.specs.Sequencer.{Sequencer, Recovery, Stage, Stores, Closes, N
 use Rattle.ld_machine.specs.State.{State, start}
 use Rattle.ld_machine.specs.Facts.{Happened, OfLog, AsksToAppend}
 use Rattle.ld_machine.specs.World.{World, In}
-use Rattle.ld_machine.specs.Run.{next_world}
-use Rattle.ld_machine.specs.Step as Step
+use Rattle.ld_machine.specs.Run.{after_step}
 use Rattle.ld_safety.proofs.Lists.{not_none, slice_get-In, slice_get_last}
-use Rattle.ld_safety.proofs.Traces.{Keeps, happened, beside_kept}
+use Rattle.ld_safety.proofs.Traces.{Keeps, step_happened, beside_kept}
 use Rattle.ld_safety.proofs.Steps.{finish_In}
 use Rattle.ld_safety.proofs.Events.{Live}
 use Rattle.ld_safety.proofs.Numbers.{below_last}
@@ -34,9 +32,11 @@ use Rattle.ld_safety.proofs.Carried as carried
 use Rattle.ld_safety.proofs.Has as has
 use Rattle.ld_safety.proofs.Withheld.{told_in, told_entry}
 use Rattle.ld_safety.proofs.Carried.{message_whole}
+use Rattle.ld_machine.specs.Calm as Calm
+use Rattle.ld_machine.specs.Calm.{Move, Takes, event_of}
 
 abbrev pub Given : Config → List Happened → State → Type 0
-Given c hs s = Carries c s (events.Flow 0) (GivenEntry hs) (GivenTrim hs) (GivenSummary hs) AnyEpoch AnyShown AnyReleased (GivenEntry hs) SmallGood s
+Given c hs s = Carries c s (Takes (events.Flow 0)) (GivenEntry hs) (GivenTrim hs) (GivenSummary hs) AnyEpoch AnyShown AnyReleased (GivenEntry hs) SmallGood s
 
 given_sound : (hs : List Happened) → carried.Sound (GivenEntry hs) (GivenTrim hs) (GivenSummary hs) AnyEpoch AnyShown AnyReleased (GivenEntry hs) SmallGood
 given_sound hs = record { zero_trim = λ l. inl refl; place = λ l b n w g. g.place.above; reached = λ l b n w g. tt; closing_trim = λ l e y h. h.0; zero_closed = λ l. (inl refl, omega arith); zero_released = λ l. tt; kept = λ l b n w g. g; zero_good = λ l e. omega arith; good_below = λ l e g h. h; whole = λ l b n w g. g.kept }
@@ -50,13 +50,13 @@ module _ (hs : List Happened) where
     in_limit : (v : Recovery) → q.recovery ≡ Some v → v.epoch ≤ epoch_limit
     in_limit v e = let z = (subst (carried.RecoveryOk (GivenEntry hs) (GivenTrim hs) (GivenSummary hs) AnyEpoch AnyShown AnyReleased (GivenEntry hs) SmallGood q.log q.epoch) e O).0.1 in omega arith
 
-module _ (c : Config) (hs : List Happened) (w : World) (e : Event) (B : Base c hs w) (G : Given c hs w.state) where
+module _ (c : Config) (hs : List Happened) (w : World) (e : Move) (B : Base c hs w) (G : Given c hs w.state) where
   abbrev next : List Happened
-  next = hs ++ happened c w.state e ∷ []
+  next = hs ++ step_happened c w.state e ∷ []
 
   now : Carries c w.state e (GivenEntry next) (GivenTrim next) (GivenSummary next) AnyEpoch AnyShown AnyReleased (GivenEntry next) SmallGood w.state
-  now = carries_grow (GivenEntry hs) (GivenTrim hs) (GivenSummary hs) AnyEpoch AnyShown AnyReleased (GivenEntry hs) SmallGood (GivenEntry next) (GivenTrim next) (GivenSummary next) AnyEpoch AnyShown AnyReleased (GivenEntry next) SmallGood (entry_grows hs w.state.register e (Step.happens c w.state e)) (trim_grows hs w.state.register e (Step.happens c w.state e))
-      (λ l k y h. (trim_grows hs w.state.register e (Step.happens c w.state e) l y.trim h.0, h.1)) (λ l k h. tt) (λ l b x h. tt) (λ l k h. tt) (entry_grows hs w.state.register e (Step.happens c w.state e)) (λ l k g h. h) c w.state e w.state G
+  now = carries_grow (GivenEntry hs) (GivenTrim hs) (GivenSummary hs) AnyEpoch AnyShown AnyReleased (GivenEntry hs) SmallGood (GivenEntry next) (GivenTrim next) (GivenSummary next) AnyEpoch AnyShown AnyReleased (GivenEntry next) SmallGood (entry_grows hs w.state.register e (Calm.moves c w.state e)) (trim_grows hs w.state.register e (Calm.moves c w.state e))
+      (λ l k y h. (trim_grows hs w.state.register e (Calm.moves c w.state e) l y.trim h.0, h.1)) (λ l k h. tt) (λ l b x h. tt) (λ l k h. tt) (entry_grows hs w.state.register e (Calm.moves c w.state e)) (λ l k g h. h) c w.state e w.state G
 
   limit_of : (name : List ℕ) (q : Sequencer) → find_named name w.state.sequencers ≡ Some q → q.epoch ≤ epoch_limit
   limit_of name q f = let o = B.0.1.epochs in let a = o.drawn name q f in let b = o.limit q.log in omega arith
@@ -68,32 +68,32 @@ module _ (c : Config) (hs : List Happened) (w : World) (e : Event) (B : Base c h
     trim_by (inr k) = subst (GivenTrim next q.log) (sym k.trim) (stage next q (limit_of name q l.named) (now.sequencers name q l.named).recovery v (Stores k.storing) r k.stage).0.0
 
   log_known : (name : List ℕ) (q : Sequencer) → Live w.state name q → OfLog next q.log name
-  log_known name q v = of_log_grows hs w.state.register e (Step.happens c w.state e) q.log name (counts_of c hs w B name q v.named).known
+  log_known name q v = of_log_grows hs w.state.register e (Calm.moves c w.state e) q.log name (counts_of c hs w B name q v.named).known
 
-  pub append_given : (name : List ℕ) (q : Sequencer) (payload : List ℕ) → Live w.state name q → appending q payload ≡ Numbered → AsksToAppend name payload e → In (lines.Appended name (numbered q.epoch (next_esn q))) (Step.happens c w.state e).lines → GivenEntry next q.log q.epoch (numbered q.epoch (next_esn q)) (Rec payload)
+  pub append_given : (name : List ℕ) (q : Sequencer) (payload : List ℕ) → Live w.state name q → appending q payload ≡ Numbered → AsksToAppend name payload (event_of e) → In (lines.Appended name (numbered q.epoch (next_esn q))) (Calm.moves c w.state e).lines → GivenEntry next q.log q.epoch (numbered q.epoch (next_esn q)) (Rec payload)
   append_given name q payload v a i x =
       let u = counts_of c hs w B name q v.named in
       let b = below_last q payload u.small a in
-      let y = slice_get-In _ _ (finish_In (Step.happens c w.state e) _ x) in
+      let y = slice_get-In _ _ (finish_In (Calm.moves c w.state e) _ x) in
       record {
         place = record { above = omega arith; below = λ z. omega arith };
         appended = λ p z. (
           length hs,
           record {
             name = name;
-            here = happened c w.state e;
-            at = slice_get_last (happened c w.state e) hs [];
-            asked = subst (λ x. AsksToAppend name x (happened c w.state e).event) (let t : payload ≡ p = cc in t) i;
-            told = (happened c w.state e, slice_get_last (happened c w.state e) hs [], y.0, y.1);
+            here = step_happened c w.state e;
+            at = slice_get_last (step_happened c w.state e) hs [];
+            asked = subst (λ x. AsksToAppend name x (step_happened c w.state e).event) (let t : payload ≡ p = cc in t) i;
+            told = (step_happened c w.state e, slice_get_last (step_happened c w.state e) hs [], y.0, y.1);
             of_log = log_known name q v;
           },
         );
         kept = refl;
       }
 
-  trim_given : (name : List ℕ) (q : Sequencer) (point : ℕ) → Live w.state name q → In (lines.Trimmed name point) (Step.happens c w.state e).lines → GivenTrim next q.log point
-  trim_given name q point v x = let y = slice_get-In _ _ (finish_In (Step.happens c w.state e) _ x) in
-      inr (length hs, point, refl, record { name = name; told = (happened c w.state e, slice_get_last (happened c w.state e) hs [], y.0, y.1); of_log = log_known name q v })
+  trim_given : (name : List ℕ) (q : Sequencer) (point : ℕ) → Live w.state name q → In (lines.Trimmed name point) (Calm.moves c w.state e).lines → GivenTrim next q.log point
+  trim_given name q point v x = let y = slice_get-In _ _ (finish_In (Calm.moves c w.state e) _ x) in
+      inr (length hs, point, refl, record { name = name; told = (step_happened c w.state e, slice_get_last (step_happened c w.state e) hs [], y.0, y.1); of_log = log_known name q v })
 
   sources : Sources c w.state e (GivenEntry next) (GivenTrim next) (GivenSummary next) AnyEpoch AnyShown AnyReleased (GivenEntry next) SmallGood
   sources = record {
@@ -117,7 +117,7 @@ module _ (c : Config) (hs : List Happened) (w : World) (e : Event) (B : Base c h
     released = λ name q p v f. tt;
   }
 
-  pub given_step : Given c (hs ++ happened c w.state e ∷ []) (next_world c w e).state
+  pub given_step : Given c (hs ++ step_happened c w.state e ∷ []) (after_step c w e).state
   given_step = carried_on c w.state e (GivenEntry next) (GivenTrim next) (GivenSummary next) AnyEpoch AnyShown AnyReleased (GivenEntry next) SmallGood B.0.0 sources
 
 start_given : (c : Config) → Given c [] (start c)

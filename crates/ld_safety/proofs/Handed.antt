@@ -1,6 +1,7 @@
 -- What messages say and how nodes are sealed was handed out by the register: ballots, seals, generations; and summaries that are told are of epochs from 1 on.
-use Rattle.std.proofs.Common.{◌≡◌, ◌∙◌, ◌⊎◌, ◌≤◌, ◌<◌, ℕ, inl, inr, refl, ap, sym, subst, Bool, true, false, ◌==◌, ◌+◌, nat_lt, cond, if◌then◌else◌, List, [], ◌∷◌, ◌++◌, Option, Some, None, arith}
+use Rattle.std.proofs.Common.{is_some, ◌≡◌, ◌∙◌, ◌⊎◌, ◌≤◌, ◌<◌, ℕ, inl, inr, refl, ap, sym, subst, Bool, true, false, ◌==◌, ◌+◌, nat_lt, cond, if◌then◌else◌, List, [], ◌∷◌, ◌++◌, Option, Some, None, arith}
 use Rattle.std.specs.Option.{unwrap_or}
+use Rattle.ld_ids.specs.Choice.{nodes_of}
 use Rattle.ld_table.specs.Table.{find}
 use Rattle.ld_table.specs.Words.{without}
 use Rattle.ld_table.specs.Named.{find_named}
@@ -11,7 +12,6 @@ use Rattle.ld_lsn.specs.Number.{epoch_of}
 use Rattle.ld_ids.specs.declared.set.Spec.{Spec}
 use Rattle.ld_ids.specs.Set.{members}
 use Rattle.ld_config.specs.declared.config.Config.{Config}
-use Rattle.ld_schedule.specs.declared.event.Event.{Event}
 use Rattle.ld_msg.specs.declared.msg.What.TheVariants.{Rec}
 use Rattle.ld_msg.specs.declared.msg.Entry.{Entry}
 use Rattle.ld_msg.specs.declared.msg.Summary.{Summary}
@@ -24,7 +24,7 @@ use Rattle.ld_msg.specs.Choice.{choice}
 use Rattle.ld_msg.specs.Digest.{Told, no_digest, with_asks, plan}
 use Rattle.ld_msg.specs.Reader.{Reader, on_answer, poll_asks, polled}
 use Rattle.ld_msg.specs.Register.{Register, View, Epochs, Granted, epochs_of, generation_of, epochs_in, lce_of, activate}
-use Rattle.ld_msg.specs.Sequencer.{Sequencer, Append, Recovery, Planned, Storing, Acts, Called, called, does_nothing, passes, item_nodes, on_reply, on_retry, to_each, digest_asks, next_ask, recovery_asks, item_stores, append_stores, release_messages, acted_messages, released_of, rose, is_acked, Numbered, activated, planned, raised, next_wave}
+use Rattle.ld_msg.specs.Sequencer.{Sequencer, Append, Recovery, Planned, Storing, Acts, Called, does_nothing, passes, item_nodes, to_each, digest_asks, next_ask, recovery_asks, item_stores, append_stores, release_messages, acted_messages, released_of, rose, is_acked, Numbered, activated, planned, raised, next_wave}
 use Rattle.ld_op.specs.declared.op.Op.{Op}
 use Rattle.ld_op.specs.declared.op.Op.TheVariants as ops
 use Rattle.ld_op.specs.Plain.{Plain, Log, log_of, empty_log, apply, with_log, lost_log, lost_logs}
@@ -36,12 +36,12 @@ use Rattle.ld_machine.specs.Disk.{Node, new_node, keep_op, keep_end, load, Kept,
 use Rattle.ld_machine.specs.State.{State, Done, new_nodes, finish, node_at, with_node, with_register, with_reader, posted}
 use Rattle.ld_machine.specs.Facts.{Happened}
 use Rattle.ld_machine.specs.World.{World, In, Sent, begin, MayHold}
-use Rattle.ld_machine.specs.Run.{next_world}
+use Rattle.ld_machine.specs.Run.{after_step}
 use Rattle.ld_machine.specs.Step as Step
 use Rattle.ld_safety.proofs.Lists.{Some_inj, not_none, only, In-append, cond_both}
 use Rattle.ld_safety.proofs.Traces.{Keeps, beside_kept}
 use Rattle.ld_safety.proofs.Steps.{sent_by}
-use Rattle.ld_safety.proofs.Events.{Cases, dispatch, Reading, refreshed, loaded}
+use Rattle.ld_safety.proofs.Events.{reply_call, retry_call, announced, Cases, dispatch, Reading, refreshed, loaded}
 use Rattle.ld_safety.proofs.NodeSteps.{store_decided, ask_decided, read_answered}
 use Rattle.ld_safety.proofs.NodeCases.{NodeKeeps, node_cases}
 use Rattle.ld_safety.proofs.SequencerSteps.{Acting, Retrying, Closing, acts_with, heard_epoch, stored_epoch, retry_acts, retry_stores, gone_of, replied, retried}
@@ -62,6 +62,8 @@ use Rattle.ld_safety.proofs.AlongSteps.{along_kept}
 use Rattle.ld_safety.proofs.Carried as carried
 use Rattle.ld_safety.proofs.Withheld.{of_one}
 use Rattle.ld_safety.proofs.ReaderSteps.{IsAskOf}
+use Rattle.ld_machine.specs.Calm as Calm
+use Rattle.ld_machine.specs.Calm.{announcements, Move}
 
 -- ---- what sequencers send ----
 abbrev pub OfSequencer : Body → Type 0
@@ -117,6 +119,15 @@ record ActsSay (k : Called) : Type 0 where
 said_by_acts : (q : Sequencer) (k : Called) → ActsSay k → AllOfSequencer (acted_messages q k.acts)
 said_by_acts q k A = both_bodies k.acts.cleans _ A.cleans (both_bodies (release_messages q k.acts.sequencer) _
     (cond_both (rose q k.acts.sequencer) (to_each (bodies.Release (released_of k.acts.sequencer)) _) [] AllOfSequencer (λ t. each_body _ _ tt) (λ t. no_bodies)) (both_bodies k.acts.asks k.acts.stores A.asks A.stores))
+
+-- and where the released number is told again
+again_says : (again : Bool) (k : Called) → ActsSay k → ActsSay (announced again k)
+again_says again k A = record {
+  cleans = A.cleans;
+  asks = both_bodies (if again then announcements k.acts.sequencer else []) k.acts.asks (cond_both again (announcements k.acts.sequencer) [] AllOfSequencer
+      (λ t. cond_both (is_some k.acts.sequencer.preempted) [] (to_each (bodies.Release (released_of k.acts.sequencer)) (nodes_of k.acts.sequencer.spec)) AllOfSequencer (λ u. no_bodies) (λ u. each_body _ _ tt)) (λ t. no_bodies)) A.asks;
+  stores = A.stores;
+}
 
 close_says : (r : Register) (looks : ℕ → View) (a : Acts) (e : ℕ) (y : Summary) (short : Bool) → 0 < e → AllOfSequencer a.cleans → AllOfSequencer a.asks → AllOfSequencer a.stores → Closing r looks a e y short ActsSay
 close_says r looks a e y short pos cl ask st = record {
@@ -411,7 +422,7 @@ ballot_low r m (whos.Sequencer b) q h = (h.ballot b q).1
 ballot_low r m (whos.Node y) q h = omega arith
 ballot_low r m (whos.Reader y) q h = omega arith
 
-module _ (c : Config) (s : State) (e : Event) (M : AllMessages s.register s.network.sent) (S : (y : ℕ) → SealDrawn s.register (node_at s y)) (D : AllDrawn s.register s)
+module _ (c : Config) (s : State) (e : Move) (M : AllMessages s.register s.network.sent) (S : (y : ℕ) → SealDrawn s.register (node_at s y)) (D : AllDrawn s.register s)
     (one : (m : Msg) → In m s.network.sent → FromOne m.body) (own : (name : List ℕ) (q : Sequencer) → find_named name s.sequencers ≡ Some q → Reached s.register q.log q.epoch)
     (recovers : (name : List ℕ) (q : Sequencer) → find_named name s.sequencers ≡ Some q → (v : Recovery) → q.recovery ≡ Some v → 0 < v.epoch) where
   seals_keep : NodeKeeps c s e (λ y x. SealDrawn s.register x)
@@ -479,9 +490,9 @@ module _ (c : Config) (s : State) (e : Event) (M : AllMessages s.register s.netw
   ticked n l (Asks from) u v m i = ask_says s.register m (whos.Node n) l (node_asks n (all_nodes c) from) (λ b q. cc) (each_ask 0 from (without (n ∷ []) (all_nodes c))) i
   ticked n l Nothing u v m i = absurd i
 
-  acted : (f : List ℕ) (name : List ℕ) (q : Sequencer) (a : Acts) → find_named name s.sequencers ≡ Some q → ActsSay (called (looks_at c s.register q.log) s.register a a.tries) → Result (Step.acted c (refreshed s f) name q a)
+  acted : (again : Bool) (f : List ℕ) (name : List ℕ) (q : Sequencer) (call : Called) → find_named name s.sequencers ≡ Some q → ActsSay call → Result (Step.told (refreshed s f) name q (announced again call))
   unfolding Result
-  acted f name q a g h u n m i = posted_says _ q.log q.epoch (acted_messages q (called (looks_at c s.register q.log) s.register a a.tries).acts) (let o = own name q g in (o.0, let z = (u q.log).0 in let y = o.1 in omega arith)) (said_by_acts q _ h) m i
+  acted again f name q call g h u n m i = posted_says _ q.log q.epoch (acted_messages q (announced again call).acts) (let o = own name q g in (o.0, let z = (u q.log).0 in let y = o.1 in omega arith)) (said_by_acts q (announced again call) (again_says again call h)) m i
 
   from_own : (d : Done) (name : List ℕ) (q : Sequencer) (x : Body) (ys : List ℕ) → find_named name s.sequencers ≡ Some q → OfSequencer x → d.sends ≡ posted (whos.Sequencer q.epoch) q.log (to_each x ys) → Result d
   unfolding Result
@@ -508,9 +519,9 @@ module _ (c : Config) (s : State) (e : Event) (M : AllMessages s.register s.netw
 
   says_cases : Cases c s e (λ d m. Result d)
   says_cases = record {
-    still = λ f i. nothing _ refl;
+    still = λ f older i. nothing _ refl;
     says = λ x q. nothing _ refl;
-    node_hears = λ f n m i t v o. handled f (Step.releases (node_at s n) m.log m.body) n m (Step.node_handles n (node_at s n) m).op (Step.node_handles n (node_at s n) m).answer (answer_says n m (Step.node_handles n (node_at s n) m).answer i refl);
+    node_hears = λ f older n m i t v o. handled f (Step.releases (node_at s n) m.log m.body) n m (Step.node_handles n (node_at s n) m).op (Step.node_handles n (node_at s n) m).answer (answer_says n m (Step.node_handles n (node_at s n) m).answer i refl);
     loads = λ n ls q b o. nothing _ refl;
     draw_fails = λ n b. nothing _ refl;
     formats = λ n r g b v i. formatted n r;
@@ -520,15 +531,15 @@ module _ (c : Config) (s : State) (e : Event) (M : AllMessages s.register s.netw
     faults = λ n f o. nothing _ refl;
     sets = λ l r x set h. nothing _ refl;
     arms = λ k done o. nothing _ refl;
-    hears = λ f name q m i t l v o. acted f name q (on_reply (looks_at c s.register q.log) q (Step.sender_node m.from) m.body) v.named (replied c s name q v.there (Step.sender_node m.from) m.body (λ k n. ActsSay k) (acting_says c s.register q (recovers name q v.named) (gone_of s q) (Step.sender_node m.from) m.body));
-    retries = λ name q v o. acted s.network.fresh name q (on_retry (looks_at c s.register q.log) q) v.named (retried c s q v.there (λ k n. ActsSay k) (retrying_says c s.register q (recovers name q v.named) (gone_of s q)));
+    hears = λ f older name q m i t l v o. acted false f name q (reply_call c s q (Step.sender_node m.from) m.body) v.named (replied c s name q v.there (Step.sender_node m.from) m.body (λ k n. ActsSay k) (acting_says c s.register q (recovers name q v.named) (gone_of s q) (Step.sender_node m.from) m.body));
+    retries = λ again name q v o. acted again s.network.fresh name q (retry_call c s q) v.named (retried c s q v.there (λ k n. ActsSay k) (retrying_says c s.register q (recovers name q v.named) (gone_of s q)));
     appends = λ name q p v a i. from_own (Step.append_done s name q p Numbered) name q _ _ v.named tt refl;
     trims = λ name q t v b. from_own (record { state = s; lines = lines.Trimmed name t ∷ []; sends = posted (whos.Sequencer q.epoch) q.log (to_each (bodies.Trim t) (all_nodes c)) }) name q _ _ v.named tt refl;
     drops = λ name q v o. nothing _ refl;
     activates = λ name l r g n i x. activated_says name l r i;
     swaps = λ n m l x r q i. nothing _ refl;
     activate_fails = λ name l x g q. nothing _ refl;
-    answers = λ f name d m i t v o. reads_say f name d (Step.sender_node m.from) m.body v;
+    answers = λ f older name d m i t v o. reads_say f name d (Step.sender_node m.from) m.body v;
     polls = λ name d v o. polls_say name d;
     opens = λ style name l from until o x. nothing _ refl;
   }
@@ -546,7 +557,7 @@ from_one c hs w R m i = by_body m.body (R.said.sent m i).0 where
   by_body (bodies.DigestAsk n) h = h.1.0
   by_body _ h = tt
 
-handed_step : (c : Config) (hs : List Happened) (w : World) (e : Event) → BaseGiven c hs w × Along c hs w → HandedOut w → HandedOut (next_world c w e)
+handed_step : (c : Config) (hs : List Happened) (w : World) (e : Move) → BaseGiven c hs w × Along c hs w → HandedOut w → HandedOut (after_step c w e)
 unfolding finish Result
 handed_step c hs w e B H = record {
   generations = drawn_step c w e B.0.0.0.0 H.generations;
@@ -557,12 +568,12 @@ handed_step c hs w e B H = record {
   seals = λ y p h l. (let z = dispatch c w.state e (λ d m. (y : ℕ) → SealDrawn w.state.register (node_at d.state y)) B.0.0.0.0 (node_cases c w.state e (λ y x. SealDrawn w.state.register x) (seals_keep c w.state e H.messages H.seals H.generations (from_one c hs w B.1) own recovers)) y p h l in let u = (up l).0 in omega arith);
 } where
   d : Done
-  d = Step.happens c w.state e
+  d = Calm.moves c w.state e
 
-  up : Up w.state.register (Step.happens c w.state e).state.register
+  up : Up w.state.register (Calm.moves c w.state e).state.register
   up = (follows c w.state e B.0.0.0.0 B.0.0.1.0).0
 
-  falls : NoneFalls w.state.register (Step.happens c w.state e).state.register
+  falls : NoneFalls w.state.register (Calm.moves c w.state e).state.register
   falls = generations_step c w e B.0.0.0.0
 
   own : (name : List ℕ) (q : Sequencer) → find_named name w.state.sequencers ≡ Some q → Reached w.state.register q.log q.epoch

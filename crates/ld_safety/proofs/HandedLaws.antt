@@ -4,7 +4,6 @@ use Rattle.std.proofs.lemmas.Bool.{eqb-true}
 use Rattle.ld_table.specs.Table.{find}
 use Rattle.ld_lsn.specs.Number.{epoch_of, esn_of, home_epoch}
 use Rattle.ld_config.specs.declared.config.Config.{Config}
-use Rattle.ld_schedule.specs.declared.event.Event.{Event}
 use Rattle.ld_msg.specs.declared.msg.What.{What}
 use Rattle.ld_msg.specs.declared.msg.Entry.{Entry}
 use Rattle.ld_msg.specs.declared.msg.Summary.{Summary}
@@ -20,7 +19,7 @@ use Rattle.ld_machine.specs.Facts.{Happened}
 use Rattle.ld_machine.specs.Config.{spec_of, fixed_of}
 use Rattle.ld_machine.specs.World.{World, In, Sent, begin}
 use Rattle.ld_machine.specs.Invariant.{GenerationsDrawn, BallotsDrawn, SummariesAgree, EntryDrawn, Epoch, IsOpen, Closed, entries_of, seals_in, generations_in}
-use Rattle.ld_machine.specs.Run.{Move, world_after, next_world, trace}
+use Rattle.ld_machine.specs.Run.{Move, world_after, after_step, trace}
 use Rattle.ld_safety.proofs.Members.{find_in}
 use Rattle.ld_safety.proofs.Lists.{not_none, only}
 use Rattle.ld_safety.proofs.Traces.{Keeps, later, beside_kept, both_kept}
@@ -124,7 +123,7 @@ module _ (c : Config) (hs : List Happened) (w : World) (B : BaseGiven c hs w × 
 abbrev pub FromOneOn : World → Type 0
 FromOneOn w = OfSummaries (λ l e y. 0 < e) w.state.register
 
-from_one_step : (c : Config) (hs : List Happened) (w : World) (v : Event) → Base c hs w → FromOneOn w → FromOneOn (next_world c w v)
+from_one_step : (c : Config) (hs : List Happened) (w : World) (v : Move) → Base c hs w → FromOneOn w → FromOneOn (after_step c w v)
 unfolding finish
 from_one_step c hs w v B h = summaries_after c w.state v (λ l e y. 0 < e) h (λ name q k y l r n z. omega arith) B.0.0
 

@@ -6,7 +6,6 @@ use Rattle.std.specs.BTreeMap.{is_at}
 use Rattle.ld_table.specs.Table.{find}
 use Rattle.ld_lsn.specs.Number.{epoch_of}
 use Rattle.ld_config.specs.declared.config.Config.{Config}
-use Rattle.ld_schedule.specs.declared.event.Event.{Event}
 use Rattle.ld_schedule.specs.declared.event.Picture.{Picture}
 use Rattle.ld_msg.specs.declared.msg.Entry.{Entry}
 use Rattle.ld_msg.specs.declared.msg.Summary.{Summary}
@@ -40,6 +39,7 @@ use Rattle.ld_safety.proofs.Serving.{CleanAt}
 use Rattle.ld_safety.proofs.HoldSteps.{released_parts}
 use Rattle.ld_safety.proofs.NodeCases.{NodeKeeps}
 use Rattle.ld_safety.proofs.Carried as carried
+use Rattle.ld_machine.specs.Calm.{Move}
 
 module _ (made : List worlds.Made) (sent : List Msg) where
   -- both plain states of a node
@@ -141,7 +141,7 @@ clean_found g e y f = cond_both (e == 0) (Some epoch_zero) (find e g.summaries) 
 -- ---- every event ----
 
 -- the state before, told in the words of after
-module _ (c : Config) (s : State) (e : Event) (hs : List Happened) (made : List worlds.Made) (r : Register) (S : Carries c s e (Said hs made r) (TrimFine c hs s.network.sent r) (CloseFine c hs made s.network.sent r) (Reached r) (ShowFine c hs made s.network.sent r) (ReleaseFine c hs s.network.sent r) (SaidHere hs made r) (LngFine c hs s.network.sent r) s)
+module _ (c : Config) (s : State) (e : Move) (hs : List Happened) (made : List worlds.Made) (r : Register) (S : Carries c s e (Said hs made r) (TrimFine c hs s.network.sent r) (CloseFine c hs made s.network.sent r) (Reached r) (ShowFine c hs made s.network.sent r) (ReleaseFine c hs s.network.sent r) (SaidHere hs made r) (LngFine c hs s.network.sent r) s)
     (H : (y : ℕ) → NodeHolds made s.network.sent y (node_at s y)) where
   known : Known made s.network.sent r
   known = record { stored = λ l y n b i. (S.sent _ i).0; pages = λ l y b from upto t lng es i. (S.sent _ i).0.0.reached }

@@ -5,7 +5,6 @@ use Rattle.std.proofs.lemmas.Bool.{cases_Bool, eqb-false, cases_order}
 use Rattle.ld_table.specs.Table.{find}
 use Rattle.ld_table.proofs.Laws.{find-put_same}
 use Rattle.ld_config.specs.declared.config.Config.{Config}
-use Rattle.ld_schedule.specs.declared.event.Event.{Event}
 use Rattle.ld_msg.specs.declared.msg.Entry.{Entry}
 use Rattle.ld_msg.specs.declared.msg.Summary.{Summary}
 use Rattle.ld_msg.specs.declared.msg.Body.{Body}
@@ -23,6 +22,7 @@ use Rattle.ld_machine.specs.Step as Step
 use Rattle.ld_safety.proofs.Lists.{Some_inj, cond_both}
 use Rattle.ld_safety.proofs.RegisterSteps.{draw_granted}
 use Rattle.ld_safety.proofs.NodeCases.{NodeKeeps}
+use Rattle.ld_machine.specs.Calm.{Move}
 
 -- ---- nodes that are up ----
 abbrev pub UpFine : Node → Type 0
@@ -126,7 +126,7 @@ handled_plain self generation g l ballot released b p q = keeps_plain g l b p q
 drawn_positive : (r : Register) (n : ℕ) (k : Register) → draw r n ≡ record { register = k; answer = Granted } → 0 < generation_of k n
 drawn_positive r n k h = let d = draw_granted r n k h in let z : generation_of k n ≡ generation_of r n + 1 = ap (λ m. unwrap_or (find n m) 0) d.1 ∙ ap (λ o. unwrap_or o 0) (find-put_same n n (generation_of r n + 1) r.generations refl) in omega arith
 
-pub ups_keep : (c : Config) (s : State) (e : Event) → ((y : ℕ) → UpFine (node_at s y)) → NodeKeeps c s e (λ y x. UpFine x)
+pub ups_keep : (c : Config) (s : State) (e : Move) → ((y : ℕ) → UpFine (node_at s y)) → NodeKeeps c s e (λ y x. UpFine x)
 unfolding apply
 ups_keep c s e a = record {
   all = a;

@@ -25,7 +25,7 @@ use Rattle.ld_machine.specs.State.{State, node_at}
 use Rattle.ld_machine.specs.Facts.{Happened}
 use Rattle.ld_machine.specs.World.{World, Made, In, begin, MayHold, makes, makes_by, lets_lose, made_in, made_lost, made_with, made_by, made_for, made_at, made_anew, made_again, made_retried, made_on, page_from, is_made}
 use Rattle.ld_machine.specs.Invariant.{HeldWasSent, OnePlan}
-use Rattle.ld_machine.specs.Run.{Move, next_world, world_after, trace}
+use Rattle.ld_machine.specs.Run.{Move, after_step, world_after, trace}
 use Rattle.ld_machine.specs.State.{sequencer_of}
 use Rattle.ld_safety.proofs.Lists.{cond_both, some_or_none, how_many-yes, how_many-no}
 use Rattle.ld_safety.proofs.Names.{found}
@@ -43,6 +43,7 @@ use Rattle.ld_safety.proofs.LostAlong.{RoundsOf, Asked, asked_kept}
 use Rattle.ld_safety.proofs.LostFull.{FullLog}
 use Rattle.ld_safety.proofs.LostFullKept.{AllFull}
 use Rattle.ld_safety.proofs.LostJoined.{bounded_here, summaries_here}
+use Rattle.ld_machine.specs.Calm.{event_of}
 
 -- ---- what is held ----
 module _ (c : Config) (hs : List Happened) (w : World) (B : Base c hs w) (R : Along c hs w) where
@@ -115,18 +116,18 @@ on_one c s _ = inl refl
 made_is : (l e b : ℕ) (m : Made) → is_made l e b m ≡ true → m ≡ plan_of l e b (basis_of m)
 made_is l e b m t = let p = and_parts ((m.log == l) && (m.epoch == e)) (m.ballot == b) t in let q = and_parts (m.log == l) (m.epoch == e) p.0 in λ i. record { log = eqb-true _ _ q.0 i; epoch = eqb-true _ _ q.1 i; ballot = eqb-true _ _ p.1 i; loss = m.loss; digest = m.digest; gone = m.gone }
 
-one_plan_step : (c : Config) (hs : List Happened) (w : World) (e : Event) → BaseGiven c hs w × Along c hs w → OnePlan w → OnePlan (next_world c w e)
-one_plan_step c hs w e B h l k b = elim (on_one c w.state e) [
+one_plan_step : (c : Config) (hs : List Happened) (w : World) (e : Move) → BaseGiven c hs w × Along c hs w → OnePlan w → OnePlan (after_step c w e)
+one_plan_step c hs w e B h l k b = elim (on_one c w.state (event_of e)) [
   | inl a ↦ subst (λ ms. how_many (is_made l k b) (ms ++ w.made) ≤ 1) (sym a) (h l k b)
   | inr a ↦ subst (λ ms. how_many (is_made l k b) (ms ++ w.made) ≤ 1) (sym a.1) (elim (cases_Bool (is_made l k b a.0)) [
     | inl t ↦ (let z = how_many-yes (is_made l k b) a.0 w.made t in let y = no_other a.0 t (subst (λ ms. In a.0 ms) (sym a.1) (inl refl)) in omega arith)
     | inr t ↦ (let z = how_many-no (is_made l k b) a.0 w.made t in let y = h l k b in omega arith)
   ])
 ] where
-  no_other : (m : Made) → is_made l k b m ≡ true → In m (made_on c w.state e) → how_many (is_made l k b) w.made ≡ 0
+  no_other : (m : Made) → is_made l k b m ≡ true → In m (made_on c w.state (event_of e)) → how_many (is_made l k b) w.made ≡ 0
   no_other m t i = elim (some_or_none (is_made l k b) w.made) [
     | inr z ↦ z
-    | inl x ↦ absurd ((new_plan c hs w e B.0.0 B.0.1 B.1 l k b (basis_of m) (subst (λ v. In v (made_on c w.state e)) (made_is l k b m t) i)).0.first (basis_of x.0) (subst (λ v. In v w.made) (made_is l k b x.0 x.2) x.1))
+    | inl x ↦ absurd ((new_plan c hs w e B.0.0 B.0.1 B.1 l k b (basis_of m) (subst (λ v. In v (made_on c w.state (event_of e))) (made_is l k b m t) i)).0.first (basis_of x.0) (subst (λ v. In v w.made) (made_is l k b x.0 x.2) x.1))
   ]
 
 abbrev pub Planning : Config → List Happened → World → Type 0

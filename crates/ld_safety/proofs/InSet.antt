@@ -1,5 +1,5 @@
 -- Items and appends are sent to nodes of their epoch alone, and items with the last known good place of their plan.
-use Rattle.std.proofs.Common.{◌≡◌, ◌∙◌, ◌≤◌, ◌⊎◌, ℕ, zero, suc, inl, inr, refl, ap, sym, subst, cond, Bool, true, false, not, ◌<◌, if◌then◌else◌, take, drop, List, [], ◌∷◌, ◌++◌, Option, Some, None, length, nat_lt, ◌==◌, ◌+◌, arith}
+use Rattle.std.proofs.Common.{is_some, ◌≡◌, ◌∙◌, ◌≤◌, ◌⊎◌, ℕ, zero, suc, inl, inr, refl, ap, sym, subst, cond, Bool, true, false, not, ◌<◌, if◌then◌else◌, take, drop, List, [], ◌∷◌, ◌++◌, Option, Some, None, length, nat_lt, ◌==◌, ◌+◌, arith}
 use Rattle.std.proofs.lemmas.Bool.{eqb-true, ltb-true}
 use Rattle.ld_table.specs.Words.{is_in, without, any_of}
 use Rattle.ld_table.specs.Named.{find_named}
@@ -7,7 +7,6 @@ use Rattle.ld_lsn.specs.Number.{epoch_of, numbered, last_esn}
 use Rattle.ld_ids.specs.declared.set.Spec.{Spec}
 use Rattle.ld_ids.specs.Choice.{nodes_of, ring, left_out, choice_at}
 use Rattle.ld_config.specs.declared.config.Config.{Config}
-use Rattle.ld_schedule.specs.declared.event.Event.{Event}
 use Rattle.ld_msg.specs.declared.msg.What.{What}
 use Rattle.ld_msg.specs.declared.msg.What.TheVariants.{Rec}
 use Rattle.ld_msg.specs.declared.msg.Who.{Who}
@@ -19,7 +18,7 @@ use Rattle.ld_msg.specs.declared.msg.Body.TheVariants as bodies
 use Rattle.ld_msg.specs.Choice.{choice}
 use Rattle.ld_msg.specs.Register.{Register, View, Granted, activate, lce_of, epochs_of, epochs_in, generation_of}
 use Rattle.ld_msg.specs.Digest.{Told, told_nothing, no_digest, with_asks, plan, plan_end, digest_lng}
-use Rattle.ld_msg.specs.Sequencer.{called, on_reply, on_retry, activated, Sequencer, Recovery, Storing, Seals, Stores, planned, raised, Acts, Append, Planned, digest_asks, next_ask, acted_messages, rose, to_each, item_nodes, item_stores, append_stores, left_nodes, is_wide, is_acked, first_stores, recovery_asks, released_of, next_esn}
+use Rattle.ld_msg.specs.Sequencer.{Called, on_reply, activated, Sequencer, Recovery, Storing, Seals, Stores, planned, raised, Acts, Append, Planned, digest_asks, next_ask, acted_messages, rose, to_each, item_nodes, item_stores, append_stores, left_nodes, is_wide, is_acked, first_stores, recovery_asks, released_of, next_esn}
 use Rattle.ld_machine.specs.Config.{looks_at, fixed_of, fixed_at}
 use Rattle.ld_op.specs.declared.op.Op.{Op}
 use Rattle.ld_op.specs.declared.op.Op.TheVariants as ops
@@ -28,7 +27,7 @@ use Rattle.ld_op.specs.Ticks.{Ticked, Cleans, Rebuilt, Asks, Nothing}
 use Rattle.ld_machine.specs.Disk.{Node, Kept, Written, keep_end}
 use Rattle.ld_machine.specs.State.{State, Done, node_at, with_node, with_register, posted}
 use Rattle.ld_machine.specs.Step as Step
-use Rattle.ld_safety.proofs.Events.{Cases, Live, refreshed, loaded}
+use Rattle.ld_safety.proofs.Events.{reply_call, retry_call, announced, Cases, Live, refreshed, loaded}
 use Rattle.ld_machine.specs.World.{Made, Joined, In, from_node, made_by, made_retried, joins_there}
 use Rattle.ld_safety.proofs.SequencerSteps.{Closing, Acting, Retrying, Hearing, heard_page, heard_lost, gone_of, same_sender, replied, retried}
 use Rattle.ld_safety.proofs.Registers.{Reached}
@@ -38,6 +37,7 @@ use Rattle.ld_safety.proofs.Storings.{planned_in}
 use Rattle.ld_safety.proofs.Acks.{raised_in}
 use Rattle.ld_safety.proofs.Lists.{cond_both, In-append, In-map}
 use Rattle.ld_safety.proofs.Members.{In_filter, In_take}
+use Rattle.ld_machine.specs.Calm.{announcements, Move}
 
 In_drop : (n y : ℕ) (xs : List ℕ) → In y (drop n xs) → In y xs
 In_drop zero y xs i = i
@@ -135,6 +135,15 @@ module _ (P : ℕ → ℕ → ℕ → Type 0) (A : ℕ → ℕ → Type 0) where
     by_later : (k : Bool) → nat_lt (lce + 1) q.epoch ≡ k → StoresTo (if k then digest_asks (no_digest (looks (lce + 1)).spec (lce + 1)) else [])
     by_later false g = nothing
     by_later true g = asks_to (no_digest (looks (lce + 1)).spec (lce + 1)) (λ t i w. let m = In-map (told_nothing (lce + 1)) t (nodes_of (looks (lce + 1)).spec) i in subst (λ (u : Told). A u.node u.asked) (sym m.2) (B (lce + 1) m.0 (omega arith) (ltb-true _ _ g) m.1))
+
+  -- and where the released number is told again
+  pub again_to : (again : Bool) (k : Called) → ActsTo k.acts → ActsTo (announced again k).acts
+  again_to again k h = record {
+    cleans = h.cleans;
+    asks = both (if again then announcements k.acts.sequencer else []) k.acts.asks (cond_both again (announcements k.acts.sequencer) [] StoresTo
+        (λ t. cond_both (is_some k.acts.sequencer.preempted) [] (to_each (bodies.Release (released_of k.acts.sequencer)) (nodes_of k.acts.sequencer.spec)) StoresTo (λ u. nothing) (λ u. each_to (bodies.Release (released_of k.acts.sequencer)) _ (λ z i. tt))) (λ t. nothing)) h.asks;
+    stores = h.stores;
+  }
 
   pub sends_to : (old : Sequencer) (a : Acts) → ActsTo a → StoresTo (acted_messages old a)
   sends_to old a h = both _ _ h.cleans (both _ _ (cond_both (rose old a.sequencer) (to_each (bodies.Release (released_of a.sequencer)) (nodes_of a.sequencer.spec)) [] StoresTo (λ t. each_to (bodies.Release (released_of a.sequencer)) _ (λ z i. tt)) (λ t. nothing)) (both _ _ h.asks h.stores))
@@ -300,7 +309,7 @@ pub record Known (c : Config) (js : List Joined) (made : List Made) (s : State) 
   pub items : (v : Recovery) (g : Storing) → q.recovery ≡ Some v → v.stage ≡ Stores g → (i : ℕ × Planned) → In i g.items → epoch_of i.0 ≡ v.epoch
   pub good : (v : Recovery) (g : Storing) → q.recovery ≡ Some v → v.stage ≡ Stores g → (d : Basis) × In (plan_of q.log v.epoch q.epoch d) made × (g.lng ≡ digest_lng d.digest)
 
-module _ (c : Config) (js : List Joined) (made : List Made) (s : State) (e : Event) (K : (t : List ℕ) (q : Sequencer) → find_named t s.sequencers ≡ Some q → Known c js made s s.register q)
+module _ (c : Config) (js : List Joined) (made : List Made) (s : State) (e : Move) (K : (t : List ℕ) (q : Sequencer) → find_named t s.sequencers ≡ Some q → Known c js made s s.register q)
     (later : (l : ℕ) (r : Register) → activate s.register l (Step.spec_set c s l) ≡ record { register = r; answer = Granted } → (x y : ℕ) → 0 < x → x < (epochs_of r l).epoch → In y (nodes_of (looks_at c r l x).spec) → AskGoes c s.register js l y (numbered x 1)) where
   -- the messages of a step, given that its plans end in their epochs
   abbrev pub Posts : Done → List Made → Type 0
@@ -352,16 +361,16 @@ module _ (c : Config) (js : List Joined) (made : List Made) (s : State) (e : Eve
   ticked n l (Asks from) h = others _ (posted_by (whos.Node n) l _ (λ b q. cc))
   ticked n l Nothing h = no_posts
 
-  acted_posts : (f : List ℕ) (name : List ℕ) (q : Sequencer) (a : Acts) (m : List Made) → (k : Known c js made s s.register q) → (((l e b : ℕ) (g : Basis) → In (plan_of l e b g) m → plan_end e g.digest ≤ last_esn) → ActsTo (May m q.log q.epoch) (MayAsk q.log) (called (looks_at c s.register q.log) s.register a a.tries).acts) → Posts (Step.acted c (refreshed s f) name q a) m
-  acted_posts f name q a m k g h = posted_to m q.epoch q.log _ (sends_to (May m q.log q.epoch) (MayAsk q.log) q (called (looks_at c s.register q.log) s.register a a.tries).acts (g h))
+  acted_posts : (again : Bool) (f : List ℕ) (name : List ℕ) (q : Sequencer) (call : Called) (m : List Made) → (k : Known c js made s s.register q) → (((l e b : ℕ) (g : Basis) → In (plan_of l e b g) m → plan_end e g.digest ≤ last_esn) → ActsTo (May m q.log q.epoch) (MayAsk q.log) call.acts) → Posts (Step.told (refreshed s f) name q (announced again call)) m
+  acted_posts again f name q call m k g h = posted_to m q.epoch q.log _ (sends_to (May m q.log q.epoch) (MayAsk q.log) q (announced again call).acts (again_to (May m q.log q.epoch) (MayAsk q.log) again call (g h)))
 
   heard_posts : (f : List ℕ) (name : List ℕ) (q : Sequencer) (m : Msg) → In m s.network.sent → m.to ≡ whos.Sequencer q.epoch → m.log ≡ q.log → Live s name q → Posts (Step.acted c (refreshed s f) name q (on_reply (looks_at c s.register q.log) q (Step.sender_node m.from) m.body)) (made_by c s (Some (name, q)) (Step.sender_node m.from) m.body)
-  heard_posts f name q m i t l v = let k = K name q v.named in acted_posts f name q (on_reply (looks_at c s.register q.log) q (Step.sender_node m.from) m.body) _ k
+  heard_posts f name q m i t l v = let k = K name q v.named in acted_posts false f name q (reply_call c s q (Step.sender_node m.from) m.body) _ k
       (replied c s name q v.there (Step.sender_node m.from) m.body (λ u n. EndsIn c js made s.register q k.own k.spec k.appends k.reached k.specs k.looked k.digests k.items k.good n → ActsTo (May n q.log q.epoch) (MayAsk q.log) u.acts)
       (acting_to c js made s.register q k.own k.spec k.appends k.reached k.specs k.looked k.digests k.items k.good (gone_of s q) (Step.sender_node m.from) m.body (k.heard m i t l v.there)))
 
-  retry_posts : (name : List ℕ) (q : Sequencer) → Live s name q → Posts (Step.acted c s name q (on_retry (looks_at c s.register q.log) q)) (made_retried c s (Some q))
-  retry_posts name q v = let k = K name q v.named in acted_posts s.network.fresh name q (on_retry (looks_at c s.register q.log) q) _ k
+  retry_posts : (again : Bool) (name : List ℕ) (q : Sequencer) → Live s name q → Posts (Step.told s name q (announced again (retry_call c s q))) (made_retried c s (Some q))
+  retry_posts again name q v = let k = K name q v.named in acted_posts again s.network.fresh name q (retry_call c s q) _ k
       (retried c s q v.there (λ u n. EndsIn c js made s.register q k.own k.spec k.appends k.reached k.specs k.looked k.digests k.items k.good n → ActsTo (May n q.log q.epoch) (MayAsk q.log) u.acts)
       (retrying_to c js made s.register q k.own k.spec k.appends k.reached k.specs k.looked k.digests k.items k.good (gone_of s q) k.anew))
 
@@ -376,9 +385,9 @@ module _ (c : Config) (js : List Joined) (made : List Made) (s : State) (e : Eve
   pub posts_cases : Cases c s e Posts
   unfolding activated
   posts_cases = record {
-    still = λ f i h. no_posts;
+    still = λ f older i h. no_posts;
     says = λ x q h. no_posts;
-    node_hears = λ f n m i t v o. handled f (Step.releases (node_at s n) m.log m.body) n m (Step.node_handles n (node_at s n) m).op (Step.node_handles n (node_at s n) m).answer;
+    node_hears = λ f older n m i t v o. handled f (Step.releases (node_at s n) m.log m.body) n m (Step.node_handles n (node_at s n) m).op (Step.node_handles n (node_at s n) m).answer;
     loads = λ n ls q b o h. no_posts;
     draw_fails = λ n b h. no_posts;
     formats = λ n r g b v i h. if_written (keep_end (node_at (with_register (loaded s n) r) n) (ops.Format (generation_of r n) (epochs_in r.logs))) [] no_posts;
@@ -388,15 +397,15 @@ module _ (c : Config) (js : List Joined) (made : List Made) (s : State) (e : Eve
     faults = λ n f o h. no_posts;
     sets = λ l r x set i h. no_posts;
     arms = λ k done o h. no_posts;
-    hears = λ f name q m i t l v o. subst (λ p. Posts (Step.acted c (refreshed s f) name q (on_reply (looks_at c s.register q.log) q (Step.sender_node m.from) m.body)) (made_by c s (Some (name, q)) p m.body)) (sym (same_sender m.from)) (heard_posts f name q m i t l v);
-    retries = λ name q v o. retry_posts name q v;
+    hears = λ f older name q m i t l v o. subst (λ p. Posts (Step.acted c (refreshed s f) name q (on_reply (looks_at c s.register q.log) q (Step.sender_node m.from) m.body)) (made_by c s (Some (name, q)) p m.body)) (sym (same_sender m.from)) (heard_posts f name q m i t l v);
+    retries = λ again name q v o. retry_posts again name q v;
     appends = λ name q p v a i h. first_posts name q p v;
     trims = λ name q t v b h. trim_posts q t _;
     drops = λ name q v o h. no_posts;
     activates = λ name l r g n i x h. posted_to [] _ l _ (recovers_to (May [] l _) (MayAsk l) (looks_at c r l) (activated (looks_at c r l) (Step.spec_set c s l) l (epochs_of r l).epoch (lce_of r l)) (lce_of r l) (later l r i));
     swaps = λ n m l x r q i h. no_posts;
     activate_fails = λ name l x g q h. no_posts;
-    answers = λ f name d m i t v o h. others _ (posted_by (whos.Reader _) _ _ (λ b q. cc));
+    answers = λ f older name d m i t v o h. others _ (posted_by (whos.Reader _) _ _ (λ b q. cc));
     polls = λ name d v o h. others _ (posted_by (whos.Reader _) _ _ (λ b q. cc));
     opens = λ style name l from until o x h. no_posts;
   }

@@ -1,5 +1,6 @@
--- The invariant holds in every state of every run.
+-- The invariant holds in every state of every run, and all else that is said of them.
 use Rattle.ld_machine.specs.Run.{InvariantHolds}
+use Rattle.ld_safety.specs.Together.{AllHold}
 use Rattle.ld_safety.proofs.Sequencing as sequencing
 use Rattle.ld_safety.proofs.HandedLaws as handed_laws
 use Rattle.ld_safety.proofs.Issued as issued
@@ -10,9 +11,12 @@ use Rattle.ld_safety.proofs.Retained as retained
 use Rattle.ld_safety.proofs.Agreed as agreed
 use Rattle.ld_safety.proofs.Standing as standing
 use Rattle.ld_safety.proofs.Rebuilt as rebuilt
+use Rattle.ld_safety.proofs.Closes as closes
+use Rattle.ld_safety.proofs.OneCopy as copies
+use Rattle.ld_safety.proofs.LostLaws as laws
 
-pub invariants_hold : InvariantHolds
-invariants_hold c es b = record {
+invariant_holds : InvariantHolds
+invariant_holds c es b = record {
   sequencers = sequencing.epochs_are_drawn_once c es;
   generations = handed_laws.generations_are_drawn_once c es;
   ballots = handed_laws.ballots_were_drawn c es;
@@ -32,4 +36,12 @@ invariants_hold c es b = record {
   losses_say = agreed.losses_say_so c es;
   copies = entries.all_copies_stand c es b;
   lost_once = rebuilt.rebuilt_once c es;
+}
+
+pub all_hold : AllHold
+all_hold = record {
+  invariant = invariant_holds;
+  beside = λ c ms b. record { closes = closes.full_or_short c ms; closes_say = closes.closes_say c ms; lost_in_lines = rebuilt.lost_stands_in_lines c ms; one_sends = copies.one_node_sends c ms };
+  lost_once = laws.lost_once;
+  whole_stays = rebuilt.whole_stays;
 }

@@ -22,7 +22,7 @@ use Rattle.ld_machine.specs.Disk.{Node}
 use Rattle.ld_machine.specs.State.{State, Done, node_at, with_node, finish, unchanged}
 use Rattle.ld_machine.specs.Step as Step
 use Rattle.ld_machine.specs.World.{World, Made, Joined, In, MayHold, begin, joined_on, joins_there, swaps_there}
-use Rattle.ld_machine.specs.Run.{next_world}
+use Rattle.ld_machine.specs.Run.{after_step}
 use Rattle.ld_safety.proofs.Lists.{cond_both, not_none}
 use Rattle.ld_safety.proofs.Events.{NamesOnce, Cases, Replaces, dispatch, refreshed, swapped_by}
 use Rattle.ld_safety.proofs.RegisterSteps.{Same, Swapped_as, activate_leaves, activated_epochs, close_leaves, draw_leaves, swap_leaves, epochs_put, epochs_same}
@@ -32,6 +32,8 @@ use Rattle.ld_safety.proofs.HoldSteps.{UpFine}
 use Rattle.ld_safety.proofs.LostUnserved.{AllUnserved, unserved_step}
 use Rattle.ld_safety.proofs.LostFullKept.{FullNode}
 use Rattle.ld_safety.proofs.Fallen.{AllFallen, fallen_step}
+use Rattle.ld_machine.specs.Calm as Calm
+use Rattle.ld_machine.specs.Calm.{Move, Takes, event_of}
 
 -- ---- what a step makes of the tables ----
 
@@ -70,15 +72,15 @@ kept_put r n l x s h k = elim (epochs_put r l k x) [
 ]
 
 -- a step that swaps nodes
-pub record Swapping (c : Config) (s : State) (v : Event) (n : Register) : Type 0 where
+pub record Swapping (c : Config) (s : State) (v : Move) (n : Register) : Type 0 where
   pub node : ℕ
   pub other : ℕ
   pub log : ℕ
   pub may : Replaces c s node other log
-  pub event : v ≡ events.Replace node other log
+  pub event : v ≡ Takes (events.Replace node other log)
   pub made : Swapped_as s.register log (log_of (node_at s node).plain log).lost_to other node n
 
-module _ (c : Config) (s : State) (v : Event) where
+module _ (c : Config) (s : State) (v : Move) where
   abbrev pub Result : Done → List Made → Type 0
   Result d m = AllKept s.register d.state.register ⊎ Swapping c s v d.state.register
 
@@ -116,9 +118,9 @@ module _ (c : Config) (s : State) (v : Event) where
 
   result_cases : Cases c s v Result
   result_cases = record {
-    still = λ f i. inl kept_here;
+    still = λ f older i. inl kept_here;
     says = λ x q. inl kept_here;
-    node_hears = λ f n m i t u o. handled f n m (Step.releases (node_at s n) m.log m.body) (Step.node_handles n (node_at s n) m).op (Step.node_handles n (node_at s n) m).answer;
+    node_hears = λ f older n m i t u o. handled f n m (Step.releases (node_at s n) m.log m.body) (Step.node_handles n (node_at s n) m).op (Step.node_handles n (node_at s n) m).answer;
     loads = λ n ls q b o. inl kept_here;
     draw_fails = λ n b. inl (drawn n);
     formats = λ n r g b u i. inl (subst (λ (d : Changed). AllKept s.register d.register) i (drawn n));
@@ -132,19 +134,19 @@ module _ (c : Config) (s : State) (v : Event) where
       | inr a ↦ inr (record { node = n; other = m; log = l; may = r; event = i; made = a })
     ];
     arms = λ k done o. inl (kept_logs s.register (Step.armed s.register k done) refl);
-    hears = λ f name q m i t l u o. inl (by_call (looks_at c s.register q.log) (on_reply (looks_at c s.register q.log) q (Step.sender_node m.from) m.body) _);
-    retries = λ name q u o. inl (by_call (looks_at c s.register q.log) (on_retry (looks_at c s.register q.log) q) _);
+    hears = λ f older name q m i t l u o. inl (by_call (looks_at c s.register q.log) (on_reply (looks_at c s.register q.log) q (Step.sender_node m.from) m.body) _);
+    retries = λ again name q u o. inl (by_call (looks_at c s.register q.log) (on_retry (looks_at c s.register q.log) q) _);
     appends = λ name q p u a i. inl kept_here;
     trims = λ name q t u b. inl kept_here;
     drops = λ name q u o. inl kept_here;
     activates = λ name l r g n i x. inl (subst (λ (d : Changed). AllKept s.register d.register) i (activated l));
     activate_fails = λ name l x g q. inl (activated l);
-    answers = λ f name d m i t u o. inl kept_here;
+    answers = λ f older name d m i t u o. inl kept_here;
     polls = λ name d u o. inl kept_here;
     opens = λ style name l from until o x. inl kept_here;
   }
 
-  pub swap_or_kept : NamesOnce s → AllKept s.register (Step.happens c s v).state.register ⊎ Swapping c s v (Step.happens c s v).state.register
+  pub swap_or_kept : NamesOnce s → AllKept s.register (Calm.moves c s v).state.register ⊎ Swapping c s v (Calm.moves c s v).state.register
   swap_or_kept N = dispatch c s v Result N result_cases
 
 -- the count of swaps doesn't fall, and where it stays the sets stay
@@ -152,10 +154,10 @@ pub record CountStep (c : Config) (r n : Register) (l : ℕ) : Type 0 where
   pub rises : (epochs_of r l).swaps ≤ (epochs_of n l).swaps
   pub same : (epochs_of n l).swaps ≡ (epochs_of r l).swaps → (e : ℕ) → Reached r l e → set_at c n l e ≡ set_at c r l e
 
-pub counts_step : (c : Config) (s : State) (v : Event) → NamesOnce s → Up s.register (Step.happens c s v).state.register → (l : ℕ) → CountStep c s.register (Step.happens c s v).state.register l
+pub counts_step : (c : Config) (s : State) (v : Move) → NamesOnce s → Up s.register (Calm.moves c s v).state.register → (l : ℕ) → CountStep c s.register (Calm.moves c s v).state.register l
 counts_step c s v N U l = elim (swap_or_kept c s v N) [ inl a ↦ by_kept (a l) | inr k ↦ by_swap k (epochs_put s.register k.log l (swapped_epochs (epochs_of s.register k.log) (log_of (node_at s k.node).plain k.log).lost_to k.other k.node)) ] where
   n : Register
-  n = (Step.happens c s v).state.register
+  n = (Calm.moves c s v).state.register
 
   shown : (e : ℕ) → Reached s.register l e → find e (epochs_of n l).swapped ≡ find e (epochs_of s.register l).swapped → set_at c n l e ≡ set_at c s.register l e
   shown e h q = ap (λ (p : Spec). nodes_of p) (now_found c n l e (reached_later s.register n l e U h) ∙ (ap (λ o. unwrap_or o (first_spec c l)) q ∙ sym (now_found c s.register l e h)))
@@ -163,7 +165,7 @@ counts_step c s v N U l = elim (swap_or_kept c s v N) [ inl a ↦ by_kept (a l) 
   by_kept : Kept (epochs_of s.register l) (epochs_of n l) → CountStep c s.register n l
   by_kept a = record { rises = let z = a.swaps in omega arith; same = λ q e h. shown e h (a.old e h.1) }
 
-  by_swap : (k : Swapping c s v (Step.happens c s v).state.register) → let x = swapped_epochs (epochs_of s.register k.log) (log_of (node_at s k.node).plain k.log).lost_to k.other k.node in ((l ≡ k.log) × (epochs_of (with_epochs s.register k.log x) l ≡ x)) ⊎ ((l ≡ k.log → ⊥) × (epochs_of (with_epochs s.register k.log x) l ≡ epochs_of s.register l)) → CountStep c s.register n l
+  by_swap : (k : Swapping c s v (Calm.moves c s v).state.register) → let x = swapped_epochs (epochs_of s.register k.log) (log_of (node_at s k.node).plain k.log).lost_to k.other k.node in ((l ≡ k.log) × (epochs_of (with_epochs s.register k.log x) l ≡ x)) ⊎ ((l ≡ k.log → ⊥) × (epochs_of (with_epochs s.register k.log x) l ≡ epochs_of s.register l)) → CountStep c s.register n l
   by_swap k (inl a) = let x = swapped_epochs (epochs_of s.register k.log) (log_of (node_at s k.node).plain k.log).lost_to k.other k.node in
       let z : (epochs_of n l).swaps ≡ (epochs_of s.register k.log).swaps + 1 = ap (λ (y : Epochs). y.swaps) (epochs_same (with_epochs s.register k.log x) n l k.made ∙ a.1) in
       let y : (epochs_of s.register l).swaps ≡ (epochs_of s.register k.log).swaps = ap (λ j. (epochs_of s.register j).swaps) a.0 in
@@ -207,8 +209,8 @@ kept_joined s t _ h = refl
 abbrev one_swap : Register → ℕ → ℕ → ℕ → ℕ → Joined
 one_swap r l upto old new = record { log = l; upto = closed_upto (epochs_of r l) upto; old = old; new = new; before = (epochs_of r l).swapped }
 
-swapped_joined : (c : Config) (s t : State) (v : Event) (k : Swapping c s v t.register) → joined_on s t v ≡ one_swap s.register k.log (log_of (node_at s k.node).plain k.log).lost_to k.other k.node ∷ []
-swapped_joined c s t v k = ap (joined_on s t) k.event ∙ cond_both (nat_lt (epochs_of s.register k.log).swaps (epochs_of t.register k.log).swaps) _ [] (λ (z : List Joined). z ≡ one_swap s.register k.log (log_of (node_at s k.node).plain k.log).lost_to k.other k.node ∷ []) (λ u. refl)
+swapped_joined : (c : Config) (s t : State) (v : Move) (k : Swapping c s v t.register) → joined_on s t (event_of v) ≡ one_swap s.register k.log (log_of (node_at s k.node).plain k.log).lost_to k.other k.node ∷ []
+swapped_joined c s t v k = ap (joined_on s t) (ap event_of k.event) ∙ cond_both (nat_lt (epochs_of s.register k.log).swaps (epochs_of t.register k.log).swaps) _ [] (λ (z : List Joined). z ≡ one_swap s.register k.log (log_of (node_at s k.node).plain k.log).lost_to k.other k.node ∷ []) (λ u. refl)
     (λ u. absurd (let a = ltb-false _ _ u in let b = more in omega arith)) where
       now : epochs_of t.register k.log ≡ swapped_epochs (epochs_of s.register k.log) (log_of (node_at s k.node).plain k.log).lost_to k.other k.node
       now = epochs_same (with_epochs s.register k.log (swapped_epochs (epochs_of s.register k.log) (log_of (node_at s k.node).plain k.log).lost_to k.other k.node)) t.register k.log k.made ∙ elim (epochs_put s.register k.log k.log (swapped_epochs (epochs_of s.register k.log) (log_of (node_at s k.node).plain k.log).lost_to k.other k.node)) [ inl a ↦ a.1 | inr a ↦ absurd (a.0 refl) ]
@@ -260,23 +262,23 @@ follow_swapped j js l e f (Some p) b q h = by_low (nat_le e j.upto) refl where
     ];
   }
 
-pub follow_step : (c : Config) (w : World) (v : Event) → NamesOnce w.state → SetsFollow w.joined w.state.register → SetsFollow (next_world c w v).joined (next_world c w v).state.register
+pub follow_step : (c : Config) (w : World) (v : Move) → NamesOnce w.state → SetsFollow w.joined w.state.register → SetsFollow (after_step c w v).joined (after_step c w v).state.register
 unfolding finish
 follow_step c w v N H = elim (swap_or_kept c w.state v N) [ inl a ↦ kept a | inr a ↦ swapped a ] where
   r : Register
   r = w.state.register
 
   n : Register
-  n = (Step.happens c w.state v).state.register
+  n = (Calm.moves c w.state v).state.register
 
   ms : List Joined
-  ms = joined_on w.state (finish (Step.happens c w.state v)).state v
+  ms = joined_on w.state (finish (Calm.moves c w.state v)).state (event_of v)
 
-  kept : AllKept w.state.register (Step.happens c w.state v).state.register → SetsFollow (ms ++ w.joined) (Step.happens c w.state v).state.register
+  kept : AllKept w.state.register (Calm.moves c w.state v).state.register → SetsFollow (ms ++ w.joined) (Calm.moves c w.state v).state.register
   kept k l e = follow_pair ms w.joined l e _ _ _ _ ((k l).found e) (H l e)
 
-  swapped : Swapping c w.state v (Step.happens c w.state v).state.register → SetsFollow (ms ++ w.joined) (Step.happens c w.state v).state.register
-  swapped k l e = subst (λ (js : List Joined). FollowAt (js ++ w.joined) l e (find e (epochs_of n l).specs) (find e (epochs_of n l).swapped)) (sym (swapped_joined c w.state (finish (Step.happens c w.state v)).state v k)) (elim (epochs_put r k.log l x) [
+  swapped : Swapping c w.state v (Calm.moves c w.state v).state.register → SetsFollow (ms ++ w.joined) (Calm.moves c w.state v).state.register
+  swapped k l e = subst (λ (js : List Joined). FollowAt (js ++ w.joined) l e (find e (epochs_of n l).specs) (find e (epochs_of n l).swapped)) (sym (swapped_joined c w.state (finish (Calm.moves c w.state v)).state v k)) (elim (epochs_put r k.log l x) [
     | inl a ↦ subst (λ (z : Epochs). FollowAt (one ∷ w.joined) l e (find e z.specs) (find e z.swapped)) (sym (epochs_same (with_epochs r k.log x) n l k.made ∙ a.1)) (subst (λ j. FollowAt (one ∷ w.joined) j e (find e x.specs) (find e x.swapped)) (sym a.0)
         (subst (FollowAt (one ∷ w.joined) k.log e (find e x.specs)) (sym (find-swapped one.upto k.other k.node e (epochs_of r k.log).swapped)) (follow_swapped one w.joined k.log e (find e x.specs) (find e (epochs_of r k.log).swapped) (λ t. refl) refl (H k.log e))))
     | inr a ↦ subst (λ (z : Epochs). FollowAt (one ∷ w.joined) l e (find e z.specs) (find e z.swapped)) (sym (epochs_same (with_epochs r k.log x) n l k.made ∙ a.1)) (follow_more (one ∷ []) w.joined l e _ _ (H l e))
@@ -301,9 +303,9 @@ pub record JoinedAt (r : Register) (x : Node) (l e : ℕ) : Type 0 where
 abbrev pub JoinedFine : List Joined → State → Type 0
 JoinedFine js s = (l e y : ℕ) → Joins js l e y → JoinedAt s.register (node_at s y) l e
 
-module _ (c : Config) (w : World) (v : Event) (N : NamesOnce w.state) (U : Up w.state.register (next_world c w v).state.register) (E : EachClosed w.state.register) (ups : (y : ℕ) → UpFine (node_at w.state y)) (full : (y : ℕ) → FullNode (node_at w.state y)) where
+module _ (c : Config) (w : World) (v : Move) (N : NamesOnce w.state) (U : Up w.state.register (after_step c w v).state.register) (E : EachClosed w.state.register) (ups : (y : ℕ) → UpFine (node_at w.state y)) (full : (y : ℕ) → FullNode (node_at w.state y)) where
   -- one that joins now is up, and has all of the epoch
-  new_joined : (k : Swapping c w.state v (Step.happens c w.state v).state.register) (l e y : ℕ) → Joins (one_swap w.state.register k.log (log_of (node_at w.state k.node).plain k.log).lost_to k.other k.node ∷ []) l e y → JoinedAt w.state.register (node_at w.state y) l e
+  new_joined : (k : Swapping c w.state v (Calm.moves c w.state v).state.register) (l e y : ℕ) → Joins (one_swap w.state.register k.log (log_of (node_at w.state k.node).plain k.log).lost_to k.other k.node ∷ []) l e y → JoinedAt w.state.register (node_at w.state y) l e
   new_joined k l e y h = subst (λ z. JoinedAt w.state.register (node_at w.state z) l e) node (subst (λ j. JoinedAt w.state.register (node_at w.state k.node) j e) log here) where
     j : Joined
     j = one_swap w.state.register k.log (log_of (node_at w.state k.node).plain k.log).lost_to k.other k.node
@@ -342,37 +344,37 @@ module _ (c : Config) (w : World) (v : Event) (N : NamesOnce w.state) (U : Up w.
       unserved = λ q i. inr (inr ((full k.node q i k.log).clean (subst (λ z. (log_of z k.log).lost ≡ false) (sym (one_plain q i)) k.may.whole) e reached.0 (subst (λ z. e ≤ (log_of z k.log).lost_to) (sym (one_plain q i)) (let a = low in omega arith))));
     }
 
-  later : (l e y : ℕ) → JoinedAt w.state.register (node_at w.state y) l e → JoinedAt (next_world c w v).state.register (node_at (next_world c w v).state y) l e
+  later : (l e y : ℕ) → JoinedAt w.state.register (node_at w.state y) l e → JoinedAt (after_step c w v).state.register (node_at (after_step c w v).state y) l e
   later l e y h = record {
-    reached = reached_later w.state.register (next_world c w v).state.register l e U h.reached;
+    reached = reached_later w.state.register (after_step c w v).state.register l e U h.reached;
     fallen = fallen_step c w v N y l e h.reached.0 h.reached.1 h.fallen;
     unserved = unserved_step c w v N y l e h.reached.0 h.reached.1 h.unserved;
   }
 
-  pub joined_step : JoinedFine w.joined w.state → JoinedFine (next_world c w v).joined (next_world c w v).state
+  pub joined_step : JoinedFine w.joined w.state → JoinedFine (after_step c w v).joined (after_step c w v).state
   unfolding finish
-  joined_step H l e y h = elim (joins_split (joined_on w.state (finish (Step.happens c w.state v)).state v) w.joined l e y h) [
+  joined_step H l e y h = elim (joins_split (joined_on w.state (finish (Calm.moves c w.state v)).state (event_of v)) w.joined l e y h) [
     | inr a ↦ later l e y (H l e y a)
     | inl a ↦ elim (swap_or_kept c w.state v N) [
-      | inl k ↦ absurd (let z : any_of (joins_there l e y) [] ≡ true = subst (λ (js : List Joined). any_of (joins_there l e y) js ≡ true) (kept_joined w.state (finish (Step.happens c w.state v)).state v k) a in cc)
-      | inr k ↦ later l e y (new_joined k l e y (subst (λ (js : List Joined). Joins js l e y) (swapped_joined c w.state (finish (Step.happens c w.state v)).state v k) a))
+      | inl k ↦ absurd (let z : any_of (joins_there l e y) [] ≡ true = subst (λ (js : List Joined). any_of (joins_there l e y) js ≡ true) (kept_joined w.state (finish (Calm.moves c w.state v)).state (event_of v) k) a in cc)
+      | inr k ↦ later l e y (new_joined k l e y (subst (λ (js : List Joined). Joins js l e y) (swapped_joined c w.state (finish (Calm.moves c w.state v)).state v k) a))
     ]
   ]
 
 -- who is there joined before, where the log's count of swaps stays
-pub joins_back : (c : Config) (w : World) (v : Event) → NamesOnce w.state → (l e y : ℕ) → (epochs_of (next_world c w v).state.register l).swaps ≡ (epochs_of w.state.register l).swaps → Joins (next_world c w v).joined l e y → Joins w.joined l e y
+pub joins_back : (c : Config) (w : World) (v : Move) → NamesOnce w.state → (l e y : ℕ) → (epochs_of (after_step c w v).state.register l).swaps ≡ (epochs_of w.state.register l).swaps → Joins (after_step c w v).joined l e y → Joins w.joined l e y
 unfolding finish
-joins_back c w v N l e y q h = elim (joins_split (joined_on w.state (finish (Step.happens c w.state v)).state v) w.joined l e y h) [
+joins_back c w v N l e y q h = elim (joins_split (joined_on w.state (finish (Calm.moves c w.state v)).state (event_of v)) w.joined l e y h) [
   | inr a ↦ a
   | inl a ↦ elim (swap_or_kept c w.state v N) [
-    | inl k ↦ absurd (let z : any_of (joins_there l e y) [] ≡ true = subst (λ (js : List Joined). any_of (joins_there l e y) js ≡ true) (kept_joined w.state (finish (Step.happens c w.state v)).state v k) a in cc)
-    | inr k ↦ absurd (by_swap k (subst (λ (js : List Joined). Joins js l e y) (swapped_joined c w.state (finish (Step.happens c w.state v)).state v k) a))
+    | inl k ↦ absurd (let z : any_of (joins_there l e y) [] ≡ true = subst (λ (js : List Joined). any_of (joins_there l e y) js ≡ true) (kept_joined w.state (finish (Calm.moves c w.state v)).state (event_of v) k) a in cc)
+    | inr k ↦ absurd (by_swap k (subst (λ (js : List Joined). Joins js l e y) (swapped_joined c w.state (finish (Calm.moves c w.state v)).state v k) a))
   ]
 ] where
   n : Register
-  n = (Step.happens c w.state v).state.register
+  n = (Calm.moves c w.state v).state.register
 
-  by_swap : (k : Swapping c w.state v (Step.happens c w.state v).state.register) → Joins (one_swap w.state.register k.log (log_of (node_at w.state k.node).plain k.log).lost_to k.other k.node ∷ []) l e y → ⊥
+  by_swap : (k : Swapping c w.state v (Calm.moves c w.state v).state.register) → Joins (one_swap w.state.register k.log (log_of (node_at w.state k.node).plain k.log).lost_to k.other k.node ∷ []) l e y → ⊥
   by_swap k b =
       let x = swapped_epochs (epochs_of w.state.register k.log) (log_of (node_at w.state k.node).plain k.log).lost_to k.other k.node in
       let p : ((k.log == l) && (k.node == y)) ≡ true × _ = and_parts _ _ (elim (or_cases (joins_there l e y (one_swap w.state.register k.log (log_of (node_at w.state k.node).plain k.log).lost_to k.other k.node)) false b) [ inl z ↦ z | inr z ↦ absurd cc ]) in

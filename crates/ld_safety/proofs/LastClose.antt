@@ -1,8 +1,7 @@
 -- Where a plan has a greater ballot than the one that closed its epoch, each item of that one was settled by as many nodes as there are copies: an epoch closed otherwise has no later plans.
-use Rattle.std.proofs.Common.{◌≡◌, ◌∙◌, ◌⊎◌, ◌≤◌, ℕ, ◌+◌, inl, inr, refl, ap, sym, subst, Bool, true, nat_lt, List, [], ◌∷◌, Option, Some, None, arith}
+use Rattle.std.proofs.Common.{false, ◌≡◌, ◌∙◌, ◌⊎◌, ◌≤◌, ℕ, ◌+◌, inl, inr, refl, ap, sym, subst, Bool, true, nat_lt, List, [], ◌∷◌, Option, Some, None, arith}
 use Rattle.ld_table.specs.Named.{find_named, put_named}
 use Rattle.ld_config.specs.declared.config.Config.{Config}
-use Rattle.ld_schedule.specs.declared.event.Event.{Event}
 use Rattle.ld_msg.specs.declared.msg.Summary.{Summary}
 use Rattle.ld_msg.specs.declared.msg.Msg.{Msg}
 use Rattle.ld_msg.specs.declared.msg.Body.{Body}
@@ -10,7 +9,7 @@ use Rattle.ld_op.specs.declared.op.Op.{Op}
 use Rattle.ld_op.specs.Ticks.{Ticked, Cleans, Rebuilt, Asks, Nothing}
 use Rattle.ld_msg.specs.Register.{Register, epochs_of, lce_of, look}
 use Rattle.ld_msg.specs.Digest.{Told}
-use Rattle.ld_msg.specs.Sequencer.{Storing, Sequencer, Recovery, Acts, Called, Numbered, appended, activated, bare, called, on_reply, on_retry, recovery_of, begun}
+use Rattle.ld_msg.specs.Sequencer.{Storing, Sequencer, Recovery, Acts, Called, Numbered, appended, activated, bare, on_reply, recovery_of, begun}
 use Rattle.ld_machine.specs.Config.{looks_at}
 use Rattle.ld_machine.specs.Disk.{Node}
 use Rattle.ld_machine.specs.State.{State, Done, node_at, with_node, with_sequencer, only_state}
@@ -18,9 +17,10 @@ use Rattle.ld_machine.specs.World.{Made, In, made_by}
 use Rattle.ld_machine.specs.Step as Step
 use Rattle.ld_safety.proofs.Lists.{Some_inj, only, not_none, cond_both}
 use Rattle.ld_safety.proofs.Names.{named_cases}
-use Rattle.ld_safety.proofs.Events.{Cases, Live, refreshed}
+use Rattle.ld_safety.proofs.Events.{reply_call, retry_call, announced, Cases, Live, refreshed}
 use Rattle.ld_safety.proofs.SequencerSteps.{Acting, Retrying, Closing, Hearing, Hearing_stored, heard_epoch, stored_epoch, gone_of, replied, retried, same_sender}
 use Rattle.ld_safety.proofs.Protocol.{Basis, plan_of}
+use Rattle.ld_machine.specs.Calm.{Move}
 
 -- a sequencer recovers the epoch after the last one that it knows closed
 abbrev pub NextOf : Sequencer → Type 0
@@ -103,7 +103,7 @@ module _ (c : Config) (r : Register) (q : Sequencer) (low : q.lce ≤ lce_of r q
   }
 
 -- ---- every event ----
-module _ (c : Config) (s : State) (e : Event) (low : (t : List ℕ) (q : Sequencer) → find_named t s.sequencers ≡ Some q → q.lce ≤ lce_of s.register q.log) (N : (t : List ℕ) (q : Sequencer) → find_named t s.sequencers ≡ Some q → NextOf q) where
+module _ (c : Config) (s : State) (e : Move) (low : (t : List ℕ) (q : Sequencer) → find_named t s.sequencers ≡ Some q → q.lce ≤ lce_of s.register q.log) (N : (t : List ℕ) (q : Sequencer) → find_named t s.sequencers ≡ Some q → NextOf q) where
   -- where a sequencer comes from: it was there, and knows no less, or is new, and knows the register's last closed epoch
   pub record Follows (d : Done) (t : List ℕ) (p : Sequencer) : Type 0 where
     pub next : NextOf p
@@ -131,8 +131,8 @@ module _ (c : Config) (s : State) (e : Event) (low : (t : List ℕ) (q : Sequenc
     plans = k;
   }
 
-  called_went : (f : List ℕ) (name : List ℕ) (q : Sequencer) (a : Acts) (m : List Made) → Live s name q → Goes q (called (looks_at c s.register q.log) s.register a a.tries) m → Went (Step.acted c (refreshed s f) name q a) m
-  called_went f name q a m v g = puts (Step.acted c (refreshed s f) name q a) name (called (looks_at c s.register q.log) s.register a a.tries).acts.sequencer m refl (λ t o. record { next = g.next; whence = inl (q, subst (λ x. find_named x s.sequencers ≡ Some q) (sym o) v.named, g.log, g.epoch, g.lce) })
+  called_went : (again : Bool) (f : List ℕ) (name : List ℕ) (q : Sequencer) (call : Called) (m : List Made) → Live s name q → Goes q call m → Went (Step.told (refreshed s f) name q (announced again call)) m
+  called_went again f name q call m v g = puts (Step.told (refreshed s f) name q (announced again call)) name call.acts.sequencer m refl (λ t o. record { next = g.next; whence = inl (q, subst (λ x. find_named x s.sequencers ≡ Some q) (sym o) v.named, g.log, g.epoch, g.lce) })
       (λ l x b f i. let z = g.plans l x b f i in (name, q, v.named, z.0, z.1, z.2))
 
   one_goes : (name : List ℕ) (q p : Sequencer) (d : Done) → find_named name s.sequencers ≡ Some q → d.state.sequencers ≡ put_named name p s.sequencers → p.log ≡ q.log → p.epoch ≡ q.epoch → p.lce ≡ q.lce → p.recovery ≡ q.recovery → Went d []
@@ -154,14 +154,14 @@ module _ (c : Config) (s : State) (e : Event) (low : (t : List ℕ) (q : Sequenc
   ticked n l Nothing = same_all (Step.ticks_as c s n l Nothing) refl
 
   heard : (f : List ℕ) (name : List ℕ) (q : Sequencer) (m : Msg) → Live s name q → Went (Step.acted c (refreshed s f) name q (on_reply (looks_at c s.register q.log) q (Step.sender_node m.from) m.body)) (made_by c s (Some (name, q)) (Step.sender_node m.from) m.body)
-  heard f name q m v = called_went f name q (on_reply (looks_at c s.register q.log) q (Step.sender_node m.from) m.body) _ v
+  heard f name q m v = called_went false f name q (reply_call c s q (Step.sender_node m.from) m.body) _ v
       (replied c s name q v.there (Step.sender_node m.from) m.body (λ k n. Goes q k n) (acting_goes c s.register q (low name q v.named) (N name q v.named) (gone_of s q) (Step.sender_node m.from) m.body))
 
   pub went_cases : Cases c s e Went
   went_cases = record {
-    still = λ f i. same_all _ refl;
+    still = λ f older i. same_all _ refl;
     says = λ x q. same_all _ refl;
-    node_hears = λ f n m i t v o. handled f (Step.releases (node_at s n) m.log m.body) n m (Step.node_handles n (node_at s n) m).op (Step.node_handles n (node_at s n) m).answer;
+    node_hears = λ f older n m i t v o. handled f (Step.releases (node_at s n) m.log m.body) n m (Step.node_handles n (node_at s n) m).op (Step.node_handles n (node_at s n) m).answer;
     loads = λ n ls q b o. same_all _ refl;
     draw_fails = λ n b. same_all _ refl;
     formats = λ n k g b v i. same_all _ refl;
@@ -171,15 +171,15 @@ module _ (c : Config) (s : State) (e : Event) (low : (t : List ℕ) (q : Sequenc
     faults = λ n f o. same_all _ refl;
     sets = λ l r x set h. same_all _ refl;
     arms = λ k done o. same_all _ refl;
-    hears = λ f name q m i t l v o. subst (λ p. Went (Step.acted c (refreshed s f) name q (on_reply (looks_at c s.register q.log) q (Step.sender_node m.from) m.body)) (made_by c s (Some (name, q)) p m.body)) (sym (same_sender m.from)) (heard f name q m v);
-    retries = λ name q v o. called_went s.network.fresh name q (on_retry (looks_at c s.register q.log) q) _ v (retried c s q v.there (λ k n. Goes q k n) (retrying_goes c s.register q (low name q v.named) (N name q v.named) (gone_of s q)));
+    hears = λ f older name q m i t l v o. subst (λ p. Went (Step.acted c (refreshed s f) name q (on_reply (looks_at c s.register q.log) q (Step.sender_node m.from) m.body)) (made_by c s (Some (name, q)) p m.body)) (sym (same_sender m.from)) (heard f name q m v);
+    retries = λ again name q v o. called_went again s.network.fresh name q (retry_call c s q) _ v (retried c s q v.there (λ k n. Goes q k n) (retrying_goes c s.register q (low name q v.named) (N name q v.named) (gone_of s q)));
     appends = λ name q p v a i. one_goes name q (appended q p) (Step.append_done s name q p Numbered) v.named refl refl refl refl refl;
     trims = λ name q t v b. same_all _ refl;
     drops = λ name q v o. one_goes name q (Step.dropped q) (only_state (with_sequencer s name (Step.dropped q))) v.named refl refl refl refl refl;
     activates = λ name l k g n i x. new_one name l k;
     swaps = λ n m l x r q i. same_all _ refl;
     activate_fails = λ name l x g q. same_all _ refl;
-    answers = λ f name d m i t v o. same_all _ refl;
+    answers = λ f older name d m i t v o. same_all _ refl;
     polls = λ name d v o. same_all _ refl;
     opens = λ style name l from until o x. same_all _ refl;
   }

@@ -31,9 +31,11 @@ pub mod Fixed
 pub mod Given
 pub mod GivenSteps
 pub mod Batches
+pub mod Openings
 pub mod Tiles
 pub mod ItemLines
 pub mod GivenItems
+pub mod Styles
 pub mod Protocol
 pub mod Agreement
 pub mod Swaps
@@ -125,6 +127,7 @@ pub mod Marks
 pub mod MarksKept
 pub mod Closes
 pub mod LostJoined
+pub mod LossAsked
 pub mod Sequencing
 pub mod Formats
 pub mod Handed
@@ -137,5 +140,7 @@ pub mod Items
 pub mod Entries
 pub mod Standing
 pub mod AckedLines
+pub mod ActedLines
+pub mod Numbered
 pub mod Released
 pub mod Invariants

@@ -146,7 +146,6 @@ quiet_of (lines.RefusedEpochLimit s) h = inr refl
 quiet_of (lines.RefusedRange s) h = inr refl
 quiet_of (lines.RefusedFull s) h = inr refl
 quiet_of (lines.Clean s n) h = inr refl
-quiet_of (lines.Released s n) h = inr refl
 quiet_of (lines.Message i from to kind n) h = absurd cc
 quiet_of _ h = absurd cc
 

@@ -1,10 +1,9 @@
 -- What a sequencer recovers an epoch with was shown by a look at it: what holds of each look holds of each recovery.
-use Rattle.std.proofs.Common.{Bool, ◌≡◌, ◌∙◌, ◌<◌, ℕ, ◌+◌, refl, ap, sym, subst, nat_lt, List, [], Option, Some, None, arith, inl, inr}
+use Rattle.std.proofs.Common.{false, Bool, ◌≡◌, ◌∙◌, ◌<◌, ℕ, ◌+◌, refl, ap, sym, subst, nat_lt, List, [], Option, Some, None, arith, inl, inr}
 use Rattle.std.proofs.lemmas.Bool.{ltb-true}
 use Rattle.ld_table.specs.Named.{find_named, put_named}
 use Rattle.ld_ids.specs.declared.set.Spec.{Spec}
 use Rattle.ld_config.specs.declared.config.Config.{Config}
-use Rattle.ld_schedule.specs.declared.event.Event.{Event}
 use Rattle.ld_msg.specs.declared.msg.Summary.{Summary}
 use Rattle.ld_msg.specs.declared.msg.Msg.{Msg}
 use Rattle.ld_msg.specs.declared.msg.Body.{Body}
@@ -12,7 +11,7 @@ use Rattle.ld_op.specs.declared.op.Op.{Op}
 use Rattle.ld_op.specs.Ticks.{Ticked, Cleans, Rebuilt, Asks, Nothing}
 use Rattle.ld_msg.specs.Register.{Register, Granted, activate, epochs_of, lce_of, look}
 use Rattle.ld_msg.specs.Digest.{Told}
-use Rattle.ld_msg.specs.Sequencer.{Storing, Sequencer, Recovery, Acts, Called, Numbered, appended, activated, bare, called, on_reply, on_retry, recovery_of, begun}
+use Rattle.ld_msg.specs.Sequencer.{Storing, Sequencer, Recovery, Acts, Called, Numbered, appended, activated, bare, on_reply, recovery_of, begun}
 use Rattle.ld_machine.specs.Config.{looks_at}
 use Rattle.ld_machine.specs.Disk.{Node}
 use Rattle.ld_machine.specs.State.{State, Done, node_at, with_node, with_sequencer, only_state}
@@ -20,8 +19,9 @@ use Rattle.ld_machine.specs.World.{Made, made_by, made_retried}
 use Rattle.ld_machine.specs.Step as Step
 use Rattle.ld_safety.proofs.Lists.{Some_inj, not_none, cond_both}
 use Rattle.ld_safety.proofs.Names.{named_cases}
-use Rattle.ld_safety.proofs.Events.{Cases, Live, refreshed}
+use Rattle.ld_safety.proofs.Events.{reply_call, retry_call, announced, Cases, Live, refreshed}
 use Rattle.ld_safety.proofs.SequencerSteps.{Acting, Retrying, Closing, Hearing, heard_page, heard_lost, Hearing_stored, heard_settled, heard_gone, gone_of, replied, retried, same_sender}
+use Rattle.ld_machine.specs.Calm.{Move}
 
 module _ (P : ℕ → ℕ → Spec → Type 0) where
   abbrev pub OfLook : Sequencer → Type 0
@@ -94,7 +94,7 @@ module _ (P : ℕ → ℕ → Spec → Type 0) where
     }
 
   -- ---- every event ----
-  module _ (c : Config) (s : State) (v : Event) (N : (t : List ℕ) (q : Sequencer) → find_named t s.sequencers ≡ Some q → OfLook q)
+  module _ (c : Config) (s : State) (v : Move) (N : (t : List ℕ) (q : Sequencer) → find_named t s.sequencers ≡ Some q → OfLook q)
       (L : (t : List ℕ) (q : Sequencer) → find_named t s.sequencers ≡ Some q → (e : ℕ) → 0 < e → e < q.epoch → P q.log e (looks_at c s.register q.log e).spec)
       (A : (l : ℕ) (k : Register) → activate s.register l (Step.spec_set c s l) ≡ record { register = k; answer = Granted } → (e : ℕ) → 0 < e → e < (epochs_of k l).epoch → P l e (looks_at c k l e).spec) where
     abbrev pub AllLook : Done → List Made → Type 0
@@ -109,8 +109,8 @@ module _ (P : ℕ → ℕ → Spec → Type 0) where
       | inr a ↦ N t v (sym a.1 ∙ (ap (find_named t) (sym z) ∙ f))
     ]
 
-    called_looks : (f : List ℕ) (name : List ℕ) (q : Sequencer) (a : Acts) (m : List Made) → Live s name q → Goes q (called (looks_at c s.register q.log) s.register a a.tries) → AllLook (Step.acted c (refreshed s f) name q a) m
-    called_looks f name q a m v g = puts (Step.acted c (refreshed s f) name q a) name (called (looks_at c s.register q.log) s.register a a.tries).acts.sequencer m refl g.looks
+    called_looks : (again : Bool) (f : List ℕ) (name : List ℕ) (q : Sequencer) (call : Called) (m : List Made) → Live s name q → Goes q call → AllLook (Step.told (refreshed s f) name q (announced again call)) m
+    called_looks again f name q call m v g = puts (Step.told (refreshed s f) name q (announced again call)) name call.acts.sequencer m refl g.looks
 
     new_one : (name : List ℕ) (l : ℕ) (k : Register) → activate s.register l (Step.spec_set c s l) ≡ record { register = k; answer = Granted } → AllLook (Step.activated_as c s name l k (epochs_of k l).epoch (lce_of k l)) []
     unfolding activated
@@ -128,14 +128,14 @@ module _ (P : ℕ → ℕ → Spec → Type 0) where
     ticked n l Nothing = same_all (Step.ticks_as c s n l Nothing) refl
 
     heard : (f : List ℕ) (name : List ℕ) (q : Sequencer) (m : Msg) → Live s name q → AllLook (Step.acted c (refreshed s f) name q (on_reply (looks_at c s.register q.log) q (Step.sender_node m.from) m.body)) (made_by c s (Some (name, q)) (Step.sender_node m.from) m.body)
-    heard f name q m v = called_looks f name q (on_reply (looks_at c s.register q.log) q (Step.sender_node m.from) m.body) (made_by c s (Some (name, q)) (Step.sender_node m.from) m.body) v
+    heard f name q m v = called_looks false f name q (reply_call c s q (Step.sender_node m.from) m.body) (made_by c s (Some (name, q)) (Step.sender_node m.from) m.body) v
         (replied c s name q v.there (Step.sender_node m.from) m.body (λ k n. Goes q k) (acting_goes c s.register q (L name q v.named) (N name q v.named) (gone_of s q) (Step.sender_node m.from) m.body))
 
     pub look_cases : Cases c s v AllLook
     look_cases = record {
-      still = λ f i. N;
+      still = λ f older i. N;
       says = λ x q. N;
-      node_hears = λ f n m i t v o. handled f (Step.releases (node_at s n) m.log m.body) n m (Step.node_handles n (node_at s n) m).op (Step.node_handles n (node_at s n) m).answer;
+      node_hears = λ f older n m i t v o. handled f (Step.releases (node_at s n) m.log m.body) n m (Step.node_handles n (node_at s n) m).op (Step.node_handles n (node_at s n) m).answer;
       loads = λ n ls q b o. N;
       draw_fails = λ n b. N;
       formats = λ n k g b v i. N;
@@ -146,14 +146,14 @@ module _ (P : ℕ → ℕ → Spec → Type 0) where
       sets = λ l r x set h. N;
       swaps = λ n m l x r q i. N;
       arms = λ k done o. N;
-      hears = λ f name q m i t l v o. subst (λ p. AllLook (Step.acted c (refreshed s f) name q (on_reply (looks_at c s.register q.log) q (Step.sender_node m.from) m.body)) (made_by c s (Some (name, q)) p m.body)) (sym (same_sender m.from)) (heard f name q m v);
-      retries = λ name q v o. called_looks s.network.fresh name q (on_retry (looks_at c s.register q.log) q) (made_retried c s (Some q)) v (retried c s q v.there (λ k n. Goes q k) (retrying_goes c s.register q (L name q v.named) (N name q v.named) (gone_of s q)));
+      hears = λ f older name q m i t l v o. subst (λ p. AllLook (Step.acted c (refreshed s f) name q (on_reply (looks_at c s.register q.log) q (Step.sender_node m.from) m.body)) (made_by c s (Some (name, q)) p m.body)) (sym (same_sender m.from)) (heard f name q m v);
+      retries = λ again name q v o. called_looks again s.network.fresh name q (retry_call c s q) (made_retried c s (Some q)) v (retried c s q v.there (λ k n. Goes q k) (retrying_goes c s.register q (L name q v.named) (N name q v.named) (gone_of s q)));
       appends = λ name q p v a i. puts (Step.append_done s name q p Numbered) name (appended q p) [] refl (N name q v.named);
       trims = λ name q t v b. N;
       drops = λ name q v o. puts (only_state (with_sequencer s name (Step.dropped q))) name (Step.dropped q) [] refl (N name q v.named);
       activates = λ name l k g n i x. new_one name l k i;
       activate_fails = λ name l x g q. N;
-      answers = λ f name d m i t v o. N;
+      answers = λ f older name d m i t v o. N;
       polls = λ name d v o. N;
       opens = λ style name l from until o x. N;
     }

@@ -6,7 +6,6 @@ use Rattle.ld_lsn.specs.Number.{epoch_of, numbered, last_esn}
 use Rattle.ld_ids.specs.declared.set.Spec.{Spec}
 use Rattle.ld_ids.specs.Choice.{nodes_of}
 use Rattle.ld_config.specs.declared.config.Config.{Config}
-use Rattle.ld_schedule.specs.declared.event.Event.{Event}
 use Rattle.ld_msg.specs.declared.msg.Entry.{Entry}
 use Rattle.ld_msg.specs.declared.msg.Body.TheVariants as bodies
 use Rattle.ld_msg.specs.Register.{epochs_of}
@@ -15,7 +14,7 @@ use Rattle.ld_machine.specs.Facts.{Happened}
 use Rattle.ld_machine.specs.State.{State, node_at}
 use Rattle.ld_msg.specs.Digest.{Told}
 use Rattle.ld_machine.specs.World.{World, Made, In, from_node, gone_nodes, is_gone, is_cut_gone}
-use Rattle.ld_machine.specs.Run.{next_world}
+use Rattle.ld_machine.specs.Run.{after_step}
 use Rattle.ld_safety.proofs.Lists.{In-append, not_both, any_in, count_share}
 use Rattle.ld_safety.proofs.Losses.{filter_passes}
 use Rattle.ld_safety.proofs.Events.{NamesOnce}
@@ -30,6 +29,7 @@ use Rattle.ld_safety.proofs.SentDrawn.{Drawn}
 use Rattle.ld_safety.proofs.Digesting.{NewPlan}
 use Rattle.ld_safety.proofs.Plannings.{PlanMade}
 use Rattle.ld_safety.proofs.DigestKept.{MadeBelow}
+use Rattle.ld_machine.specs.Calm.{Move}
 
 -- of a loss plan: the nodes that had nothing to tell as it was made
 pub record LossKept (c : Config) (s : State) (l e b : ℕ) (d : Basis) : Type 0 where
@@ -59,10 +59,10 @@ loss_made c hs made s l e b d D lo n p = record {
   passed y i = filter_passes (λ y. is_gone l e (node_at s y).plain && is_cut_gone l e (node_at s y).cut) y (nodes_of n.spec) (subst (λ g. is_in y g ≡ true) n.gone_now i)
 
 -- ---- a step ----
-pub loss_step : (c : Config) (w : World) (v : Event) → NamesOnce w.state → ((y : ℕ) → UpFine (node_at w.state y)) → ((y : ℕ) → LostWithin w.state.register (node_at w.state y)) → Up w.state.register (next_world c w v).state.register → Stays c w.state.register (next_world c w v).state.register
-    → (l e b : ℕ) (d : Basis) → LossKept c w.state l e b d → LossKept c (next_world c w v).state l e b d
+pub loss_step : (c : Config) (w : World) (v : Move) → NamesOnce w.state → ((y : ℕ) → UpFine (node_at w.state y)) → ((y : ℕ) → LostWithin w.state.register (node_at w.state y)) → Up w.state.register (after_step c w v).state.register → Stays c w.state.register (after_step c w v).state.register
+    → (l e b : ℕ) (d : Basis) → LossKept c w.state l e b d → LossKept c (after_step c w v).state l e b d
 loss_step c w v N ups within u y l e b d h = record {
-  reached = reached_later w.state.register (next_world c w v).state.register l e u h.reached;
+  reached = reached_later w.state.register (after_step c w v).state.register l e u h.reached;
   gone = subst (λ (p : Spec). p.r ≤ how_many (λ y. is_in y d.gone) (nodes_of p)) (sym (y.specs l e h.reached)) h.gone;
   unserved = λ z i. unserved_step c w v N z l e h.reached.0 h.reached.1 (h.unserved z i);
   fallen = λ z i. fallen_step c w v N z l e h.reached.0 h.reached.1 (h.fallen z i);

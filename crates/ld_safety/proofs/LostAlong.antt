@@ -2,7 +2,6 @@
 use Rattle.std.proofs.Common.{◌≡◌, ◌⊎◌, ◌≤◌, ℕ, inl, inr, refl, sym, subst, List, [], Some, arith}
 use Rattle.ld_table.specs.Named.{find_named}
 use Rattle.ld_config.specs.declared.config.Config.{Config}
-use Rattle.ld_schedule.specs.declared.event.Event.{Event}
 use Rattle.ld_msg.specs.declared.msg.Msg.{Msg}
 use Rattle.ld_msg.specs.declared.msg.Who.{Who}
 use Rattle.ld_msg.specs.declared.msg.Who.TheVariants as whos
@@ -15,7 +14,7 @@ use Rattle.ld_op.specs.Plain.{log_of}
 use Rattle.ld_machine.specs.State.{State, node_at}
 use Rattle.ld_machine.specs.Facts.{Happened}
 use Rattle.ld_machine.specs.World.{World, In, Sent, begin}
-use Rattle.ld_machine.specs.Run.{next_world}
+use Rattle.ld_machine.specs.Run.{after_step}
 use Rattle.ld_machine.specs.Step as Step
 use Rattle.ld_safety.proofs.Lists.{not_none}
 use Rattle.ld_safety.proofs.ReaderLogs.{Apart}
@@ -30,6 +29,8 @@ use Rattle.ld_safety.proofs.LostTalk.{TalkKeeps, talked, new_or_old, same_reader
 use Rattle.ld_safety.proofs.LostTalk as talk
 use Rattle.ld_safety.proofs.Steps.{sent_now}
 use Rattle.ld_safety.proofs.LostRounds.{Rounds, same_rounds, answer_to, ask_answer, rounds_apart, rounds_answer, rounds_on, rounds_opened}
+use Rattle.ld_machine.specs.Calm as Calm
+use Rattle.ld_machine.specs.Calm.{Move}
 
 abbrev pub RoundsOf : World → Type 0
 RoundsOf w = Rounds w.state.register (Sent w) w.state.readers
@@ -37,7 +38,7 @@ RoundsOf w = Rounds w.state.register (Sent w) w.state.readers
 sent_as : (ms : List Msg) (m : Msg) (a b : Who) (l : ℕ) → In m ms → m.from ≡ a → m.to ≡ b → m.log ≡ l → In (record { from = a; to = b; log = l; body = m.body }) ms
 sent_as ms m a b l i p q r = subst (λ z. In (record { from = a; to = b; log = z; body = m.body }) ms) r (subst (λ z. In (record { from = a; to = z; log = m.log; body = m.body }) ms) q (subst (λ z. In (record { from = z; to = m.to; log = m.log; body = m.body }) ms) p i))
 
-module _ (c : Config) (s : State) (e : Event) (k : Register) (U : NoneFalls s.register k) (D : AllDrawn s.register s) (A : Apart s.network.sent s.readers) (R : Rounds s.register (λ m. In m s.network.sent) s.readers) where
+module _ (c : Config) (s : State) (e : Move) (k : Register) (U : NoneFalls s.register k) (D : AllDrawn s.register s) (A : Apart s.network.sent s.readers) (R : Rounds s.register (λ m. In m s.network.sent) s.readers) where
   held_sent : (name : List ℕ) (d : Reader) (m : Msg) (x : Reader) → find_named name s.readers ≡ Some d → In m s.network.sent → m.to ≡ whos.Reader d.number → x.number ≡ d.number → x.log ≡ d.log
       → (h : ℕ × Held) → In h d.held ⊎ (h ≡ new_held (Step.sender_node m.from) m.body) → In (answer_to h.0 x h.1.body) s.network.sent
   held_sent name d m x f i t n l h o = subst (λ z. In (record { from = whos.Node h.0; to = whos.Reader x.number; log = z; body = h.1.body }) s.network.sent) (sym l) (subst (λ z. In (record { from = whos.Node h.0; to = whos.Reader z; log = d.log; body = h.1.body }) s.network.sent) (sym n) (elim o [
@@ -63,13 +64,13 @@ module _ (c : Config) (s : State) (e : Event) (k : Register) (U : NoneFalls s.re
     opens = λ style name l from until o. rounds_opened s.register k U s.network.sent s.readers A R style name l from until;
   }
 
-pub rounds_step : (c : Config) (w : World) (e : Event) → NamesOnce w.state → AllDrawn w.state.register w.state → Apart w.state.network.sent w.state.readers → RoundsOf w → RoundsOf (next_world c w e)
+pub rounds_step : (c : Config) (w : World) (e : Move) → NamesOnce w.state → AllDrawn w.state.register w.state → Apart w.state.network.sent w.state.readers → RoundsOf w → RoundsOf (after_step c w e)
 rounds_step c w e N D A R =
-    let k = (next_world c w e).state.register in
+    let k = (after_step c w e).state.register in
     let t = talked c w.state e (λ ms ds. Rounds k (λ m. In m w.state.network.sent ⊎ In m ms) ds) (rounds_talk c w.state e k (generations_step c w e N) D A R) N in
-    subst (λ (ds : List (List ℕ × Reader)). Rounds k (Sent (next_world c w e)) ds) (sym (same_readers (Step.happens c w.state e)))
-    (same_rounds k _ (Sent (next_world c w e)) (Step.happens c w.state e).state.readers
-    (λ m o. elim o [ inl i ↦ talk.still_sent c w.state e m t.same i | inr i ↦ sent_now (Step.happens c w.state e) m i ]) (λ m i. new_or_old c w.state e m t.same i) t.talk)
+    subst (λ (ds : List (List ℕ × Reader)). Rounds k (Sent (after_step c w e)) ds) (sym (same_readers (Calm.moves c w.state e)))
+    (same_rounds k _ (Sent (after_step c w e)) (Calm.moves c w.state e).state.readers
+    (λ m o. elim o [ inl i ↦ talk.still_sent c w.state e m t.same i | inr i ↦ sent_now (Calm.moves c w.state e) m i ]) (λ m i. new_or_old c w.state e m t.same i) t.talk)
 
 start_rounds : (c : Config) → RoundsOf (begin c)
 unfolding find_named

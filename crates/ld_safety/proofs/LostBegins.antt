@@ -6,7 +6,6 @@ use Rattle.ld_table.specs.Named.{find_named, put_named}
 use Rattle.ld_table.specs.Words.{is_in, all_of, any_of}
 use Rattle.ld_lsn.specs.Number.{home_epoch}
 use Rattle.ld_config.specs.declared.config.Config.{Config}
-use Rattle.ld_schedule.specs.declared.event.Event.{Event}
 use Rattle.ld_msg.specs.declared.msg.Msg.{Msg}
 use Rattle.ld_msg.specs.declared.msg.Who.TheVariants as whos
 use Rattle.ld_msg.specs.declared.msg.Body.{Body}
@@ -17,7 +16,7 @@ use Rattle.ld_msg.specs.Register.{View, look, generation_of, epochs_of}
 use Rattle.ld_machine.specs.Config.{looks_at, set_at}
 use Rattle.ld_machine.specs.State.{State, finish, posted}
 use Rattle.ld_machine.specs.World.{World, In, Sent}
-use Rattle.ld_machine.specs.Run.{next_world}
+use Rattle.ld_machine.specs.Run.{after_step}
 use Rattle.ld_machine.specs.Step as Step
 use Rattle.ld_safety.proofs.Lists.{Some_inj, not_none, In-append, any_in, cond_both}
 use Rattle.ld_safety.proofs.Members.{find_in, In_filter}
@@ -32,6 +31,8 @@ use Rattle.ld_safety.proofs.LostTalk.{TalkKeeps, talked, new_or_old, same_reader
 use Rattle.ld_safety.proofs.LostRounds.{wave_of, answer_to, found_in, posted_to, ask_parts, place_of}
 use Rattle.ld_safety.proofs.LostAlong.{RoundsOf}
 use Rattle.ld_safety.proofs.LostSince.{Since, SinceMsg, SinceReader}
+use Rattle.ld_machine.specs.Calm as Calm
+use Rattle.ld_machine.specs.Calm.{Move}
 
 -- ---- the nodes that are held as lost ----
 pub record HeldLost (s y g : ℕ) (hs : List (ℕ × Held)) : Type 0 where
@@ -157,7 +158,7 @@ module _ (c : Config) (s : State) where
     | inr q ↦ inl (as_before t x v q.1 h)
   ]
 
-  came_talk : (e : Event) → TalkKeeps c s e Came
+  came_talk : (e : Move) → TalkKeeps c s e Came
   came_talk e = record {
     quiet = λ t x v f h. inl (as_before t x v f h);
     elsewhere = λ ms k t x v f h. inl (as_before t x v f h);
@@ -167,33 +168,33 @@ module _ (c : Config) (s : State) where
     opens = λ style name l from until o. unconfirming [] name (opened style l (length s.readers) from until) refl;
   }
 
-pub came : (c : Config) (w : World) (e : Event) → NamesOnce w.state → Came c w.state (Step.happens c w.state e).sends (next_world c w e).state.readers
-came c w e N = subst (λ (ds : List (List ℕ × Reader)). Came c w.state (Step.happens c w.state e).sends ds) (sym (same_readers (Step.happens c w.state e))) (talked c w.state e (Came c w.state) (came_talk c w.state e) N).talk
+pub came : (c : Config) (w : World) (e : Move) → NamesOnce w.state → Came c w.state (Calm.moves c w.state e).sends (after_step c w e).state.readers
+came c w e N = subst (λ (ds : List (List ℕ × Reader)). Came c w.state (Calm.moves c w.state e).sends ds) (sym (same_readers (Calm.moves c w.state e))) (talked c w.state e (Came c w.state) (came_talk c w.state e) N).talk
 
 -- ---- a new one, at its moment ----
-module _ (c : Config) (w : World) (e : Event) (N : NamesOnce w.state) (A : Apart w.state.network.sent w.state.readers) (R : RoundsOf w)
-    (B : Apart (next_world c w e).state.network.sent (next_world c w e).state.readers) (Q : RoundsOf (next_world c w e))
-    (t : List ℕ) (x : Reader) (v : Confirmation) (f : find_named t (next_world c w e).state.readers ≡ Some x) (h : x.confirming ≡ Some v) (n : NewHere c w.state (Step.happens c w.state e).sends t x v) where
+module _ (c : Config) (w : World) (e : Move) (N : NamesOnce w.state) (A : Apart w.state.network.sent w.state.readers) (R : RoundsOf w)
+    (B : Apart (after_step c w e).state.network.sent (after_step c w e).state.readers) (Q : RoundsOf (after_step c w e))
+    (t : List ℕ) (x : Reader) (v : Confirmation) (f : find_named t (after_step c w e).state.readers ≡ Some x) (h : x.confirming ≡ Some v) (n : NewHere c w.state (Calm.moves c w.state e).sends t x v) where
   after : World
-  after = next_world c w e
+  after = after_step c w e
 
-  old_msg : (m : Msg) → Sent w m → SinceMsg (next_world c w e) x.number x.log x.next v.round v.asked m
+  old_msg : (m : Msg) → Sent w m → SinceMsg (after_step c w e) x.number x.log x.next v.round v.asked m
   old_msg m i = record {
     log = λ q. sym (A.logs m x.number t n.reader i q n.named (sym n.number)) ∙ sym n.log;
     ask = λ q k b. absurd (let a = (R.waves m x.number t n.reader i (inr q) n.named (sym n.number)).wave in let u = (ask_parts m.body v.round k b).0 in let z = n.higher in omega arith);
     answer = λ q k g end b u. absurd (let a = (R.waves m x.number t n.reader i (inl q) n.named (sym n.number)).wave in let y : wave_of m.body ≡ v.round = ap wave_of b in let z = n.higher in omega arith);
   }
 
-  new_msg : (m : Msg) → In m (Step.happens c w.state e).sends → SinceMsg (next_world c w e) x.number x.log x.next v.round v.asked m
+  new_msg : (m : Msg) → In m (Calm.moves c w.state e).sends → SinceMsg (after_step c w e) x.number x.log x.next v.round v.asked m
   new_msg m i = let k = n.asks m i in record {
     log = λ q. k.3;
     ask = λ q j b. sym (ask_parts m.body v.round j b).1 ∙ ap place_of k.4;
     answer = λ q j g end b u. absurd (let z : whos.Node k.0 ≡ whos.Reader x.number = sym k.1 ∙ q in cc);
   }
 
-  asked_drawn : (z g : ℕ) → find z v.asked ≡ Some g → g ≤ generation_of (next_world c w e).state.register z
+  asked_drawn : (z g : ℕ) → find z v.asked ≡ Some g → g ≤ generation_of (after_step c w e).state.register z
   asked_drawn z g q = let o = lost_in x.next z g (seen_nodes n.view) x.held (find_in z _ g (subst (λ (k : List (ℕ × ℕ)). find z k ≡ Some g) n.asked q)) in
-      subst (λ y. g ≤ generation_of (next_world c w e).state.register y) o.node
+      subst (λ y. g ≤ generation_of (after_step c w e).state.register y) o.node
       (Q.generations (answer_to o.answer.0 x o.answer.1.body) x.number o.number o.round g o.end (Q.held t x o.answer f o.there) refl o.is)
 
   not_not : (b : Bool) → not b ≡ false → b ≡ true
@@ -201,39 +202,39 @@ module _ (c : Config) (w : World) (e : Event) (N : NamesOnce w.state) (A : Apart
   not_not false q = absurd cc
 
   -- a step in which a confirmation begins swaps nothing
-  still : (l : ℕ) → (epochs_of (Step.happens c w.state e).state.register l).swaps ≡ (epochs_of w.state.register l).swaps
+  still : (l : ℕ) → (epochs_of (Calm.moves c w.state e).state.register l).swaps ≡ (epochs_of w.state.register l).swaps
   still l = elim (swap_or_kept c w.state e N) [
     | inl a ↦ (a l).swaps
-    | inr k ↦ absurd (let g : find_named t w.state.readers ≡ Some x = ap (find_named t) (sym (swap_readers c w.state k.node k.other k.log)) ∙ (ap (λ v. find_named t (Step.happens c w.state v).state.readers) (sym k.event) ∙ (ap (find_named t) (sym (same_readers (Step.happens c w.state e))) ∙ f)) in
+    | inr k ↦ absurd (let g : find_named t w.state.readers ≡ Some x = ap (find_named t) (sym (swap_readers c w.state k.node k.other k.log)) ∙ (ap (λ v. find_named t (Calm.moves c w.state v).state.readers) (sym k.event) ∙ (ap (find_named t) (sym (same_readers (Calm.moves c w.state e))) ∙ f)) in
         let y = ap (λ (z : Reader). z.round) (Some_inj (sym n.named ∙ g)) in let a = n.round in let b = n.higher in omega arith)
   ]
 
   -- the nodes that the last look showed are those of the number's epoch
-  pub new_set : OnlyClosed w.state.register → AllShow c w.state.register w.state.readers → (0 < home_epoch x.next) × (home_epoch x.next ≤ (epochs_of (next_world c w e).state.register x.log).epoch) × (seen_nodes n.view ≡ set_at c (next_world c w e).state.register x.log (home_epoch x.next))
+  pub new_set : OnlyClosed w.state.register → AllShow c w.state.register w.state.readers → (0 < home_epoch x.next) × (home_epoch x.next ≤ (epochs_of (after_step c w e).state.register x.log).epoch) × (seen_nodes n.view ≡ set_at c (after_step c w e).state.register x.log (home_epoch x.next))
   unfolding finish look
   new_set O S =
-      let p : 0 < home_epoch x.next = loss_positive (next_world c w e) Q t x f x.next (seen_nodes n.view) n.loss in
+      let p : 0 < home_epoch x.next = loss_positive (after_step c w e) Q t x f x.next (seen_nodes n.view) n.loss in
       let u = follows c w.state e N O in
-      let k : Shows c (next_world c w e).state.register n.reader.log n.view = shows_later c w.state.register (next_world c w e).state.register n.reader.log n.view u.0 (counts_step c w.state e N u.0 n.reader.log) (seen_shows c w.state.register n.reader n.view (S t n.reader n.named) n.came) in
-      let h : Shows c (next_world c w e).state.register x.log n.view = subst (λ l. Shows c (next_world c w e).state.register l n.view) (sym n.log) k in
-      (p, h.epoch (home_epoch x.next) n.seen, h.nodes (home_epoch x.next) p n.seen (equal n.view n.same ∙ (sym (still n.reader.log) ∙ ap (λ l. (epochs_of (Step.happens c w.state e).state.register l).swaps) (sym n.log)))) where
+      let k : Shows c (after_step c w e).state.register n.reader.log n.view = shows_later c w.state.register (after_step c w e).state.register n.reader.log n.view u.0 (counts_step c w.state e N u.0 n.reader.log) (seen_shows c w.state.register n.reader n.view (S t n.reader n.named) n.came) in
+      let h : Shows c (after_step c w e).state.register x.log n.view = subst (λ l. Shows c (after_step c w e).state.register l n.view) (sym n.log) k in
+      (p, h.epoch (home_epoch x.next) n.seen, h.nodes (home_epoch x.next) p n.seen (equal n.view n.same ∙ (sym (still n.reader.log) ∙ ap (λ l. (epochs_of (Calm.moves c w.state e).state.register l).swaps) (sym n.log)))) where
         equal : (o : Option View) → sees_swap o (looks_at c w.state.register n.reader.log (home_epoch x.next)) ≡ false → shown_swaps o ≡ (epochs_of w.state.register n.reader.log).swaps
         equal o q = eqb-true _ _ (not_not (shown_swaps o == (epochs_of w.state.register n.reader.log).swaps) q)
 
   -- its last look showed the count of swaps as it is
-  pub new_equal : shown_swaps x.seen ≡ (epochs_of (next_world c w e).state.register x.log).swaps
+  pub new_equal : shown_swaps x.seen ≡ (epochs_of (after_step c w e).state.register x.log).swaps
   unfolding finish look
-  new_equal = ap shown_swaps n.now ∙ sym (ap (λ l. (epochs_of (Step.happens c w.state e).state.register l).swaps) n.log ∙ still n.reader.log)
+  new_equal = ap shown_swaps n.now ∙ sym (ap (λ l. (epochs_of (Calm.moves c w.state e).state.register l).swaps) n.log ∙ still n.reader.log)
 
-  pub since_new : Since (next_world c w e) x.number x.log x.next v.round v.asked (next_world c w e)
+  pub since_new : Since (after_step c w e) x.number x.log x.next v.round v.asked (after_step c w e)
   since_new = record {
-    back = back_here (next_world c w e);
+    back = back_here (after_step c w e);
     drawn = asked_drawn;
     talk = record {
       sent = λ m i. elim (new_or_old c w.state e m (talked c w.state e (Came c w.state) (came_talk c w.state e) N).same i) [ inl o ↦ old_msg m o | inr o ↦ new_msg m o ];
       there = record { name = t; reader = x; named = f; number = refl };
-      readers = λ u z g q. let k : u ≡ t = B.once u t z x g f q in let y : x ≡ z = Some_inj (sym f ∙ subst (λ j. find_named j (next_world c w e).state.readers ≡ Some z) k g) in
-          subst (SinceReader (next_world c w e) x.number x.log x.next v.round v.asked) y (record {
+      readers = λ u z g q. let k : u ≡ t = B.once u t z x g f q in let y : x ≡ z = Some_inj (sym f ∙ subst (λ j. find_named j (after_step c w e).state.readers ≡ Some z) k g) in
+          subst (SinceReader (after_step c w e) x.number x.log x.next v.round v.asked) y (record {
             log = refl;
             up = (let a = n.round in omega arith);
             confirming = λ p j b. let a : v ≡ p = Some_inj (sym h ∙ j) in record { same = ap (λ (o : Confirmation). o.asked) (sym a); next = refl; told = λ i o. absurd (none_told i (subst (λ (xs : List ℕ). is_in i xs ≡ true) n.told (subst (λ (k : Confirmation). is_in i k.told ≡ true) (sym a) o))) };

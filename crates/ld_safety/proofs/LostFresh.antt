@@ -3,7 +3,6 @@ use Rattle.std.proofs.Common.{◌≡◌, ◌∙◌, ◌⊎◌, ◌≤◌, ◌<�
 use Rattle.ld_table.specs.Named.{find_named, put_named}
 use Rattle.ld_lsn.specs.Number.{home_epoch}
 use Rattle.ld_config.specs.declared.config.Config.{Config}
-use Rattle.ld_schedule.specs.declared.event.Event.{Event}
 use Rattle.ld_msg.specs.declared.msg.Msg.{Msg}
 use Rattle.ld_msg.specs.declared.msg.Who.{Who}
 use Rattle.ld_msg.specs.declared.msg.Who.TheVariants as whos
@@ -20,7 +19,7 @@ use Rattle.ld_machine.specs.Disk.{Node}
 use Rattle.ld_machine.specs.State.{finish, node_at, posted}
 use Rattle.ld_machine.specs.Facts.{Happened}
 use Rattle.ld_machine.specs.World.{World, Joined, In, Sent, MayHold, begin}
-use Rattle.ld_machine.specs.Run.{next_world}
+use Rattle.ld_machine.specs.Run.{after_step}
 use Rattle.ld_machine.specs.Step as Step
 use Rattle.ld_safety.proofs.Lists.{not_none, only}
 use Rattle.ld_safety.proofs.Traces.{Keeps, beside_kept}
@@ -38,6 +37,8 @@ use Rattle.ld_safety.proofs.LostPages.{CleanKept, joined_shown}
 use Rattle.ld_safety.proofs.LostShown.{Shown, shown_kept}
 use Rattle.ld_msg.specs.declared.style.Style.{Style}
 use Rattle.ld_safety.proofs.Withheld.{still_there}
+use Rattle.ld_machine.specs.Calm as Calm
+use Rattle.ld_machine.specs.Calm.{Move}
 
 -- a clean page of a node that took a place in its epoch has each number that it covers
 abbrev pub PageRight : List Joined → ℕ → ℕ → Body → Type 0
@@ -54,13 +55,13 @@ pub record FreshAt (js : List Joined) (S : Msg → Type 0) (r : Register) (d : R
 abbrev pub AllFresh : World → Type 0
 AllFresh w = (t : List ℕ) (d : Reader) → find_named t w.state.readers ≡ Some d → FreshAt w.joined (Sent w) w.state.register d
 
-module _ (c : Config) (w : World) (v : Event) (N : NamesOnce w.state) (O : OnlyClosed w.state.register) (K : CleanKept c w) (up : (n l : ℕ) → Serves c w.state n l → ((node_at w.state n).cut ≡ None) × (0 < (node_at w.state n).plain.generation)) (R : RoundsOf w)
+module _ (c : Config) (w : World) (v : Move) (N : NamesOnce w.state) (O : OnlyClosed w.state.register) (K : CleanKept c w) (up : (n l : ℕ) → Serves c w.state n l → ((node_at w.state n).cut ≡ None) × (0 < (node_at w.state n).plain.generation)) (R : RoundsOf w)
     (A : Apart w.state.network.sent w.state.readers) (S : AllShow c w.state.register w.state.readers) (F : AllFresh w) where
   abbrev js : List Joined
-  js = (next_world c w v).joined
+  js = (after_step c w v).joined
 
   abbrev n : Register
-  n = (next_world c w v).state.register
+  n = (after_step c w v).state.register
 
   -- ---- an answer of this step ----
   same_right : (y l u f k from upto : ℕ) (es xs : List Entry) → bodies.ReadPage u f k true es ≡ bodies.ReadPage u from upto true xs → ((s : ℕ) → f ≤ s → s ≤ k → Joins w.joined l (home_epoch f) y → is_some (entry_at s es) ≡ true)
@@ -98,28 +99,28 @@ module _ (c : Config) (w : World) (v : Event) (N : NamesOnce w.state) (O : OnlyC
       ask_answered y p.generation (log_of p m.log) m.log _ (Step.released_at (node_at w.state y) m.log) m.body x q (PageRight w.joined y m.log) a (read_right y m.log (Step.released_at (node_at w.state y) m.log) q.round q.from T) (λ set excluded z k. one_right y set excluded m.log z k)
 
   -- ---- what was sent before ----
-  right_on : (y l : ℕ) (b : Body) → (epochs_of (next_world c w v).state.register l).swaps ≡ (epochs_of w.state.register l).swaps → PageRight w.joined y l b → PageRight (next_world c w v).joined y l b
+  right_on : (y l : ℕ) (b : Body) → (epochs_of (after_step c w v).state.register l).swaps ≡ (epochs_of w.state.register l).swaps → PageRight w.joined y l b → PageRight (after_step c w v).joined y l b
   right_on y l b q h u from upto es k s lo hi j = h u from upto es k s lo hi (joins_back c w v N l (home_epoch from) y q j)
 
-  rises : (l : ℕ) → (epochs_of w.state.register l).swaps ≤ (epochs_of (next_world c w v).state.register l).swaps
+  rises : (l : ℕ) → (epochs_of w.state.register l).swaps ≤ (epochs_of (after_step c w v).state.register l).swaps
   unfolding finish
   rises l = (counts_step c w.state v N (follows c w.state v N O).0 l).rises
 
   -- a reader that has seen each swap saw each before
   record Seen (d : Reader) : Type 0 where
     before : shown_swaps d.seen ≡ (epochs_of w.state.register d.log).swaps
-    same : (epochs_of (next_world c w v).state.register d.log).swaps ≡ (epochs_of w.state.register d.log).swaps
+    same : (epochs_of (after_step c w v).state.register d.log).swaps ≡ (epochs_of w.state.register d.log).swaps
 
-  seen_all : (t : List ℕ) (d : Reader) → find_named t w.state.readers ≡ Some d → shown_swaps d.seen ≡ (epochs_of (next_world c w v).state.register d.log).swaps → Seen d
+  seen_all : (t : List ℕ) (d : Reader) → find_named t w.state.readers ≡ Some d → shown_swaps d.seen ≡ (epochs_of (after_step c w v).state.register d.log).swaps → Seen d
   seen_all t d f q = let a = (S t d f).count in let b = rises d.log in record { before = omega arith; same = omega arith }
 
-  old_right : (t : List ℕ) (d x : Reader) → find_named t w.state.readers ≡ Some d → x.number ≡ d.number → x.log ≡ d.log → FreshOf d x.seen x.least → shown_swaps x.seen ≡ (epochs_of (next_world c w v).state.register x.log).swaps
-      → (m : Msg) → In m w.state.network.sent → m.to ≡ whos.Reader x.number → x.least ≤ round_of m.body → Right (next_world c w v).joined m
+  old_right : (t : List ℕ) (d x : Reader) → find_named t w.state.readers ≡ Some d → x.number ≡ d.number → x.log ≡ d.log → FreshOf d x.seen x.least → shown_swaps x.seen ≡ (epochs_of (after_step c w v).state.register x.log).swaps
+      → (m : Msg) → In m w.state.network.sent → m.to ≡ whos.Reader x.number → x.least ≤ round_of m.body → Right (after_step c w v).joined m
   old_right t d x f number log (inl z) q m i to le u from upto es b s lo hi j =
       let o : m.to ≡ whos.Reader d.number = to ∙ ap whos.Reader number in
-      let e : shown_swaps d.seen ≡ (epochs_of (next_world c w v).state.register d.log).swaps = sym z.0 ∙ (q ∙ ap (λ l. (epochs_of (next_world c w v).state.register l).swaps) log) in
+      let e : shown_swaps d.seen ≡ (epochs_of (after_step c w v).state.register d.log).swaps = sym z.0 ∙ (q ∙ ap (λ l. (epochs_of (after_step c w v).state.register l).swaps) log) in
       let k = seen_all t d f e in
-      right_on (Step.sender_node m.from) m.log m.body (subst (λ l. (epochs_of (next_world c w v).state.register l).swaps ≡ (epochs_of w.state.register l).swaps) (A.logs m d.number t d i (inl o) f refl) k.same)
+      right_on (Step.sender_node m.from) m.log m.body (subst (λ l. (epochs_of (after_step c w v).state.register l).swaps ≡ (epochs_of w.state.register l).swaps) (A.logs m d.number t d i (inl o) f refl) k.same)
       ((F t d f).right k.before m i o (let a = z.1 in omega arith)) u from upto es b s lo hi j
   old_right t d x f number log (inr z) q m i to le u from upto es b s lo hi j = absurd (
       let a = (R.waves m d.number t d i (inl (to ∙ ap whos.Reader number)) f refl).wave in
@@ -127,9 +128,9 @@ module _ (c : Config) (w : World) (v : Event) (N : NamesOnce w.state) (O : OnlyC
 
   -- ---- every step ----
   abbrev Talk : List Msg → List (List ℕ × Reader) → Type 0
-  Talk ms ds = (t : List ℕ) (d : Reader) → find_named t ds ≡ Some d → FreshAt (next_world c w v).joined (λ m. In m w.state.network.sent ⊎ In m ms) (next_world c w v).state.register d
+  Talk ms ds = (t : List ℕ) (d : Reader) → find_named t ds ≡ Some d → FreshAt (after_step c w v).joined (λ m. In m w.state.network.sent ⊎ In m ms) (after_step c w v).state.register d
 
-  still : (ms : List Msg) → ((t : List ℕ) (d : Reader) → find_named t w.state.readers ≡ Some d → shown_swaps d.seen ≡ (epochs_of (next_world c w v).state.register d.log).swaps → (m : Msg) → In m ms → m.to ≡ whos.Reader d.number → Right (next_world c w v).joined m) → Talk ms w.state.readers
+  still : (ms : List Msg) → ((t : List ℕ) (d : Reader) → find_named t w.state.readers ≡ Some d → shown_swaps d.seen ≡ (epochs_of (after_step c w v).state.register d.log).swaps → (m : Msg) → In m ms → m.to ≡ whos.Reader d.number → Right (after_step c w v).joined m) → Talk ms w.state.readers
   still ms h t d f = record {
     right = λ q m o to le. elim o [ inl i ↦ old_right t d d f refl refl (inl (refl, omega arith)) q m i to le | inr i ↦ h t d f q m i to ];
     held = (F t d f).held;
@@ -137,7 +138,7 @@ module _ (c : Config) (w : World) (v : Event) (N : NamesOnce w.state) (O : OnlyC
 
   going : (name : List ℕ) (d x : Reader) (ms : List Msg) → find_named name w.state.readers ≡ Some d → x.number ≡ d.number → x.log ≡ d.log → FreshOf d x.seen x.least → AllFrom x.least x.held → ((m : Msg) (r : ℕ) → In m ms → m.to ≡ whos.Reader r → ⊥) → Talk ms (put_named name x w.state.readers)
   going name d x ms f number log fresh held none t z g = elim (found_in t name x z w.state.readers g) [
-    | inl a ↦ subst (FreshAt (next_world c w v).joined (λ m. In m w.state.network.sent ⊎ In m ms) (next_world c w v).state.register) a.1 (record {
+    | inl a ↦ subst (FreshAt (after_step c w v).joined (λ m. In m w.state.network.sent ⊎ In m ms) (after_step c w v).state.register) a.1 (record {
       right = λ q m o to le. elim o [ inl i ↦ old_right name d x f number log fresh q m i to le | inr i ↦ absurd (none m x.number i to) ];
       held = held;
     })
@@ -146,7 +147,7 @@ module _ (c : Config) (w : World) (v : Event) (N : NamesOnce w.state) (O : OnlyC
 
   new_one : (style : Style) (name : List ℕ) (l from until : ℕ) → Talk [] (put_named name (opened style l (length w.state.readers) from until) w.state.readers)
   new_one style name l from until t z g = elim (found_in t name (opened style l (length w.state.readers) from until) z w.state.readers g) [
-    | inl a ↦ subst (FreshAt (next_world c w v).joined (λ m. In m w.state.network.sent ⊎ In m []) (next_world c w v).state.register) a.1 (record {
+    | inl a ↦ subst (FreshAt (after_step c w v).joined (λ m. In m w.state.network.sent ⊎ In m []) (after_step c w v).state.register) a.1 (record {
       right = λ q m o to le. elim o [ inl i ↦ absurd (let k = A.known m (length w.state.readers) i (inl to) in omega arith) | inr i ↦ absurd i ];
       held = λ h i. absurd i;
     })
@@ -160,7 +161,7 @@ module _ (c : Config) (w : World) (v : Event) (N : NamesOnce w.state) (O : OnlyC
   answered y m x i T a = still (record { from = whos.Node y; to = m.from; log = m.log; body = x } ∷ []) (λ t d f q k j to. let e = only k _ j in
       let r : m.from ≡ whos.Reader d.number = sym (ap (λ (z : Msg). z.to) e) ∙ to in
       let o = seen_all t d f q in
-      subst (Right (next_world c w v).joined) (sym e) (right_on y m.log x (subst (λ l. (epochs_of (next_world c w v).state.register l).swaps ≡ (epochs_of w.state.register l).swaps) (A.logs m d.number t d i (inr r) f refl) o.same) (answer_right y m x i T a d.number r)))
+      subst (Right (after_step c w v).joined) (sym e) (right_on y m.log x (subst (λ l. (epochs_of (after_step c w v).state.register l).swaps ≡ (epochs_of w.state.register l).swaps) (A.logs m d.number t d i (inr r) f refl) o.same) (answer_right y m x i T a d.number r)))
 
   fresh_talk : TalkKeeps c w.state v Talk
   fresh_talk = record {
@@ -173,9 +174,9 @@ module _ (c : Config) (w : World) (v : Event) (N : NamesOnce w.state) (O : OnlyC
     opens = λ style name l from until o. new_one style name l from until;
   }
 
-  pub fresh_step : AllFresh (next_world c w v)
+  pub fresh_step : AllFresh (after_step c w v)
   fresh_step t d f = let k = talked c w.state v Talk fresh_talk N in
-      let h = k.talk t d (subst (λ (ds : List (List ℕ × Reader)). find_named t ds ≡ Some d) (same_readers (Step.happens c w.state v)) f) in record {
+      let h = k.talk t d (subst (λ (ds : List (List ℕ × Reader)). find_named t ds ≡ Some d) (same_readers (Calm.moves c w.state v)) f) in record {
         right = λ q m i to le. h.right q m (new_or_old c w.state v m k.same i) to le;
         held = h.held;
       }

@@ -8,7 +8,6 @@ use Rattle.ld_table.proofs.Laws.{put_cases}
 use Rattle.ld_ids.specs.Set.{members}
 use Rattle.ld_lsn.specs.Number.{epoch_of}
 use Rattle.ld_config.specs.declared.config.Config.{Config}
-use Rattle.ld_schedule.specs.declared.event.Event.{Event}
 use Rattle.ld_msg.specs.declared.msg.Entry.{Entry}
 use Rattle.ld_msg.specs.declared.msg.Summary.{Summary}
 use Rattle.ld_msg.specs.declared.msg.Body.{Body}
@@ -23,7 +22,7 @@ use Rattle.ld_msg.specs.Register.{epochs_of, epochs_in, generation_of}
 use Rattle.ld_machine.specs.Disk.{Node, new_node, keep_op, load}
 use Rattle.ld_machine.specs.State.{State, new_nodes, finish, node_at}
 use Rattle.ld_machine.specs.World.{World, MayHold}
-use Rattle.ld_machine.specs.Run.{next_world}
+use Rattle.ld_machine.specs.Run.{after_step}
 use Rattle.ld_machine.specs.Step as Step
 use Rattle.ld_safety.proofs.Lists.{Some_inj, not_none, cond_both, In-map}
 use Rattle.ld_safety.proofs.Traces.{Keeps, beside_kept}
@@ -35,6 +34,7 @@ use Rattle.ld_safety.proofs.NodeCases.{NodeKeeps, node_cases}
 use Rattle.ld_safety.proofs.LostNodes.{kept_from, loaded_from, released_from}
 use Rattle.ld_safety.proofs.LostUnserved.{FullClean, rebuilt_full}
 use Rattle.ld_safety.proofs.LostFull.{FullLog, full_empty, full_lost, full_accept, full_seal, full_trim, full_clean, OfClean, full_refill, full_refilled, unclean_none}
+use Rattle.ld_machine.specs.Calm.{Move}
 
 -- ---- what an op needs ----
 abbrev pub OpFits : Plain → Op → Type 0
@@ -172,7 +172,7 @@ same_plain : (x : Node) (k : ℕ) (b : Body) → (Step.releases x k b).plain ≡
 same_plain x k (bodies.Release y) = refl
 same_plain x k _ = refl
 
-pub full_keeps : (c : Config) (s : State) (v : Event) → ((y : ℕ) → FullNode (node_at s y)) → NodeKeeps c s v (λ y x. FullNode x)
+pub full_keeps : (c : Config) (s : State) (v : Move) → ((y : ℕ) → FullNode (node_at s y)) → NodeKeeps c s v (λ y x. FullNode x)
 full_keeps c s v F = record {
   all = F;
   hears = λ n m i t u p q. F n p (released_from (node_at s n) m.log m.body p q);
@@ -189,7 +189,7 @@ full_keeps c s v F = record {
 abbrev pub AllFull : World → Type 0
 AllFull w = (y : ℕ) → FullNode (node_at w.state y)
 
-pub full_step : (c : Config) (w : World) (v : Event) → NamesOnce w.state → AllFull w → AllFull (next_world c w v)
+pub full_step : (c : Config) (w : World) (v : Move) → NamesOnce w.state → AllFull w → AllFull (after_step c w v)
 unfolding finish
 full_step c w v N F = dispatch c w.state v (λ d m. (y : ℕ) → FullNode (node_at d.state y)) N (node_cases c w.state v (λ y x. FullNode x) (full_keeps c w.state v F))
 

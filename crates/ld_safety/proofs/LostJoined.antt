@@ -1,5 +1,5 @@
 -- Along every run nodes keep what was settled; so losses happened, and stood at the confirming asks.
-use Rattle.std.proofs.Common.{◌≡◌, ◌∙◌, ◌⊎◌, ◌≤◌, ◌<◌, ℕ, inl, inr, refl, ap, sym, subst, Bool, true, false, nat_le, if◌then◌else◌, List, [], Some, arith}
+use Rattle.std.proofs.Common.{◌≡◌, ◌∙◌, ◌⊎◌, ◌≤◌, ◌<◌, ℕ, inl, inr, refl, sym, subst, Bool, true, false, nat_le, if◌then◌else◌, List, [], Some, arith}
 use Rattle.std.proofs.lemmas.Bool.{cases_Bool, cases_lt, leb-true, leb-false, le-leb}
 use Rattle.ld_table.specs.Table.{find}
 use Rattle.ld_table.specs.Words.{how_many}
@@ -18,8 +18,7 @@ use Rattle.ld_machine.specs.Losses.{Completes}
 use Rattle.ld_machine.specs.Safe.{LossesHappened, Safe}
 use Rattle.ld_machine.specs.World.{World, In, begin, MayHold, settled, has_told, says_stored, says_settled}
 use Rattle.ld_machine.specs.Invariant.{Closed, Ready}
-use Rattle.ld_machine.specs.Run.{Takes, history, trace, world_after}
-use Rattle.ld_machine.specs.Step as Step
+use Rattle.ld_machine.specs.Run.{history, trace, world_after}
 use Rattle.ld_safety.specs.Lost.{CopiesWereLost, LossesWereTold}
 use Rattle.ld_safety.proofs.Lists.{Some_inj}
 use Rattle.ld_safety.proofs.Members.{find_in}
@@ -53,6 +52,9 @@ use Rattle.ld_safety.proofs.Tiles as tiles
 use Rattle.ld_safety.proofs.GivenItems as items
 use Rattle.ld_safety.proofs.Unhidden as unhidden
 use Rattle.ld_safety.proofs.Numbers as numbers
+use Rattle.ld_machine.specs.Calm as Calm
+use Rattle.ld_safety.proofs.Numbered as numbered
+use Rattle.ld_safety.proofs.Styles as styles
 
 -- ---- numbers ----
 
@@ -208,17 +210,17 @@ pub losses_happened : (c : Config) (es : List Event) → IsInBounds c → Losses
 losses_happened c es b = settled_losses.happened c (Settling c) (settling_clean c) (settling_fine c b) (settling_kept c b) (told_lost c) es
 
 pub copies_were_lost : CopiesWereLost
-copies_were_lost c name l s round before (Takes asks) between (Takes gives) b E = settled_losses.stood c (Settling c) (settling_clean c) (settling_fine c b) (settling_kept c b) name l s round before asks between gives E
+copies_were_lost c name l s round before asks between gives b E = settled_losses.stood c (Settling c) (settling_clean c) (settling_fine c b) (settling_kept c b) name l s round before asks between gives E
 
 -- what was lost without a confirmation
 pub losses_were_told : LossesWereTold
-losses_were_told c name low high n before (Takes gives) d b f i not_so a h =
+losses_were_told c name low high n before gives d b f i not_so a h =
     let w = world_after c (begin c) before in
     let S = later c (Settling c) (settling_kept c b) [] (begin c) before (settling_kept c b).begins in
     let B = S.0.0.0 in
-    let g = losses_given c w.state gives B.0.0.0.0 name low high (line_of (Step.happens c w.state gives) _ (λ h. cc) i) in
+    let g = losses_given c w.state gives B.0.0.0.0 name low high (line_of (Calm.moves c w.state gives) _ (λ h. cc) i) in
     let same : g.reader ≡ d = Some_inj (sym g.named ∙ f) in
-    let p = by_cause w (trace c (begin c) before) B.0.0 B.1 g (subst (λ (x : Reader). Completes w x (Takes gives) → low ≡ x.next → high ≡ x.next → ⊥) (sym same) not_so) same in
+    let p = by_cause w (trace c (begin c) before) B.0.0 B.1 g (subst (λ (x : Reader). Completes w x gives → low ≡ x.next → high ≡ x.next → ⊥) (sym same) not_so) same in
     record {
       ballot = p.0;
       plan = plan_of d.log (home_epoch n) p.0 p.1;
@@ -226,22 +228,27 @@ losses_were_told c name low high n before (Takes gives) d b f i not_so a h =
       says = p.3;
       moment = made_of_lost c before d.log (home_epoch n) p.0 p.1 p.2 p.3;
     } where
-      by_cause : (w : World) (hs : List Happened) → Base c hs w → Along c hs w → (g : LossGiven w.state gives name low high) → (Completes w g.reader (Takes gives) → low ≡ g.reader.next → high ≡ g.reader.next → ⊥) → g.reader ≡ d → LossPlan w.made d.log (home_epoch n)
+      by_cause : (w : World) (hs : List Happened) → Base c hs w → Along c hs w → (g : LossGiven w.state gives name low high) → (Completes w g.reader gives → low ≡ g.reader.next → high ≡ g.reader.next → ⊥) → g.reader ≡ d → LossPlan w.made d.log (home_epoch n)
       by_cause w hs B R g not_so same = elim g.how [
-        | inl z ↦ absurd (let x = delivery w.state gives g.message g.delivers in not_so (record { index = x.0; delivers = ap Takes x.1; answer = g.message; there = x.2; for_reader = g.to; complete = z.confirmed }) z.first z.last)
+        | inl z ↦ absurd (let x = delivery w.state gives g.message g.delivers in not_so (record { index = x.0; delivers = x.1; answer = g.message; there = x.2; for_reader = g.to; complete = z.confirmed }) z.first z.last)
         | inr z ↦ (let p = told_planned c hs w B R name g.reader g.named g.message g.sent g.to low high n z a h in
             subst (λ (x : Reader). LossPlan w.made x.log (home_epoch n)) same p)
       ]
 
--- all seven laws at once
+-- all of these laws at once
 pub every_run_is_safe : (c : Config) (es : List Event) → IsInBounds c → Safe c (history c es)
 every_run_is_safe c es b = record {
   tiles = tiles.items_tile c es;
   records = items.records c es;
   batches = items.batches c es;
+  styles = styles.styles_are_kept c es;
   hidden = unhidden.nothing_hidden c es;
   trims = items.trims c es;
   losses = losses_happened c es b;
   rise = numbers.rise c es;
   differ = numbers.differ c es;
+  one = numbered.one_number c es b;
+  epochs = numbered.numbers_have_epochs c es b;
+  acked = numbered.acks_appended c es b;
+  released = numbered.releases_acked c es b;
 }

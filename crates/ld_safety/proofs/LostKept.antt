@@ -4,16 +4,15 @@ use Rattle.std.specs.Option.{unwrap_or}
 use Rattle.ld_table.specs.Table.{find}
 use Rattle.ld_ids.specs.Set.{members}
 use Rattle.ld_config.specs.declared.config.Config.{Config}
-use Rattle.ld_schedule.specs.declared.event.Event.{Event}
 use Rattle.ld_msg.specs.Register.{swap, swapped_epochs, Register, Epochs, activate, close, draw, with_epochs, next_epoch, closed_epochs, no_epochs, epochs_of, empty_register}
 use Rattle.ld_machine.specs.Config.{has_log}
 use Rattle.ld_machine.specs.Disk.{Node, new_node}
 use Rattle.ld_machine.specs.State.{new_nodes, finish, node_at}
 use Rattle.ld_machine.specs.Facts.{Happened, Lost, standing, stands_for}
 use Rattle.ld_machine.specs.World.{World}
-use Rattle.ld_machine.specs.Run.{next_world}
+use Rattle.ld_machine.specs.Run.{after_step}
 use Rattle.ld_machine.specs.Step as Step
-use Rattle.ld_safety.proofs.Traces.{Keeps, happened, beside_kept}
+use Rattle.ld_safety.proofs.Traces.{Keeps, step_happened, beside_kept}
 use Rattle.ld_safety.proofs.Base.{Base, base_kept}
 use Rattle.ld_safety.proofs.Steps.{told}
 use Rattle.ld_safety.proofs.Events.{NamesOnce, dispatch}
@@ -23,6 +22,7 @@ use Rattle.ld_safety.proofs.Registers.{register_kept}
 use Rattle.ld_safety.proofs.LostNodes.{LostIn}
 use Rattle.ld_safety.proofs.LostStanding.{Stands, new_stands}
 use Rattle.ld_safety.proofs.LostStands.{OnlyLogs, stands_cases}
+use Rattle.ld_machine.specs.Calm.{Move}
 
 -- ---- the register's logs ----
 abbrev pub LogsFine : Config → Register → Type 0
@@ -40,7 +40,7 @@ put_fine c r n l x a s h = same_fine c (with_epochs r l x) n s.0 (
   ],
 )
 
-fine_step : (c : Config) (w : World) (e : Event) → NamesOnce w.state → LogsFine c w.state.register → LogsFine c (next_world c w e).state.register
+fine_step : (c : Config) (w : World) (e : Move) → NamesOnce w.state → LogsFine c w.state.register → LogsFine c (after_step c w e).state.register
 unfolding finish
 fine_step c w e N h = let r = w.state.register in register_kept c w.state e (λ n. LogsFine c n) h
     (λ l g. let p = Step.spec_set c w.state l in elim (activate_leaves r l p) [ inl a ↦ same_fine c r (activate r l p).register a.0 h | inr a ↦ put_fine c r (activate r l p).register l (next_epoch (epochs_of r l) p) (λ z. g) a.1 h ])
@@ -57,7 +57,7 @@ start_fine c = (tt, λ l z. absurd (omega arith))
 abbrev pub Standings : Config → List Happened → World → Type 0
 Standings c hs w = LogsFine c w.state.register × ((n l : ℕ) → Stands (standing n l hs Lost) l (node_at w.state n))
 
-standings_step : (c : Config) (hs : List Happened) (w : World) (e : Event) → NamesOnce w.state → Standings c hs w → Standings c (hs ++ happened c w.state e ∷ []) (next_world c w e)
+standings_step : (c : Config) (hs : List Happened) (w : World) (e : Move) → NamesOnce w.state → Standings c hs w → Standings c (hs ++ step_happened c w.state e ∷ []) (after_step c w e)
 unfolding finish
 standings_step c hs w e N h = (fine_step c w e N h.0, λ n l. dispatch c w.state e (λ d m. (n l : ℕ) → Stands (standing n l (hs ++ told w.state.register e d ∷ []) Lost) l (node_at d.state n)) N (stands_cases c hs w.state e h.1 h.0) n l)
 

@@ -4,7 +4,6 @@ use Rattle.std.proofs.lemmas.Bool.{and_from, or_cases, eqb-true}
 use Rattle.ld_table.specs.Words.{is_in}
 use Rattle.ld_lsn.specs.Number.{home_epoch}
 use Rattle.ld_config.specs.declared.config.Config.{Config}
-use Rattle.ld_schedule.specs.declared.event.Event.{Event}
 use Rattle.ld_table.specs.Table.{find}
 use Rattle.ld_table.specs.Words.{how_many}
 use Rattle.ld_msg.specs.Reading.{Held, is_loss, lacks}
@@ -13,11 +12,11 @@ use Rattle.ld_machine.specs.Config.{spec_of, set_at}
 use Rattle.ld_machine.specs.State.{node_at}
 use Rattle.ld_machine.specs.Facts.{Happened}
 use Rattle.ld_machine.specs.World.{World, In, begin}
-use Rattle.ld_machine.specs.Run.{Move, Takes, next_world, world_after}
+use Rattle.ld_machine.specs.Run.{Move, after_step, world_after}
 use Rattle.ld_machine.specs.Losses.{EndsAsLoss}
 use Rattle.ld_safety.specs.Lost.{LostOnce, LossesWereSeen, CopiesAreLost, is_lost_at, has_copied}
 use Rattle.ld_safety.proofs.Lists.{count_mono}
-use Rattle.ld_safety.proofs.Traces.{Keeps, happened, trace, later, both_kept}
+use Rattle.ld_safety.proofs.Traces.{Keeps, step_happened, trace, later, both_kept}
 use Rattle.ld_safety.proofs.Generations.{Back, back_here, back_on, back_step, lost_between}
 use Rattle.ld_safety.proofs.LostAlong.{Asked, asked_kept}
 use Rattle.ld_safety.proofs.LostKept.{standings_kept}
@@ -29,7 +28,7 @@ use Rattle.ld_safety.proofs.LostStood.{at_asks, lost_under, lost_in_state}
 back_along : (c : Config) (hs : List Happened) (w : World) (es : List Move) → Asked c hs w → Back w (world_after c w es)
 unfolding world_after
 back_along c hs w [] h = back_here w
-back_along c hs w (Takes e ∷ es) h = back_on w (next_world c w e) (world_after c (next_world c w e) es) (back_step c w e h.0.0.0) (back_along c (hs ++ happened c w.state e ∷ []) (next_world c w e) es ((asked_kept c).goes_on hs w e h))
+back_along c hs w (e ∷ es) h = back_on w (after_step c w e) (world_after c (after_step c w e) es) (back_step c w e h.0.0.0) (back_along c (hs ++ step_happened c w.state e ∷ []) (after_step c w e) es ((asked_kept c).goes_on hs w e h))
 
 pub lost_once : LostOnce
 lost_once c first between last y l e g b was will =
@@ -51,9 +50,9 @@ is_member y (x ∷ xs) h = elim (or_cases (x == y) (is_in y xs) h) [
 ]
 
 pub losses_were_seen : LossesWereSeen
-losses_were_seen c name l s round before (Takes asks) between (Takes gives) y b E i =
+losses_were_seen c name l s round before asks between gives y b E i =
     let w = world_after c (begin c) before in
-    let t = next_world c w asks in
+    let t = after_step c w asks in
     let hs = trace c (begin c) before in
     let set = set_at c t.state.register l (home_epoch s) in
     let a = at_asks c name l s round before asks between gives E in
@@ -67,17 +66,17 @@ losses_were_seen c name l s round before (Takes asks) between (Takes gives) y b 
 
 -- ---- with what is left to be shown of the nodes ----
 module _ (c : Config) (Q : List Happened → World → Type 0) (K : Keeps c Q) (P : LossesSettled c Q) where
-  pub copies_are_lost : (name : List ℕ) (l s round : ℕ) (before : List Move) (asks : Event) (between : List Move) (gives : Event) → EndsAsLoss c name l s round before (Takes asks) between (Takes gives) → CopiesAreLost c (next_world c (world_after c (begin c) before) asks) l s
+  pub copies_are_lost : (name : List ℕ) (l s round : ℕ) (before : List Move) (asks : Move) (between : List Move) (gives : Move) → EndsAsLoss c name l s round before asks between gives → CopiesAreLost c (after_step c (world_after c (begin c) before) asks) l s
   copies_are_lost name l s round before asks between gives E =
       let w = world_after c (begin c) before in
-      let t = next_world c w asks in
+      let t = after_step c w asks in
       let hs = trace c (begin c) before in
       let a = at_asks c name l s round before asks between gives E in
       let B : Keeps c (Known c Q) = both_kept c (Asked c) Q (asked_kept c) K in
-      let h : Known c Q (hs ++ happened c w.state asks ∷ []) t = B.goes_on hs w asks (later c (Known c Q) B [] (begin c) before B.begins) in
+      let h : Known c Q (hs ++ step_happened c w.state asks ∷ []) t = B.goes_on hs w asks (later c (Known c Q) B [] (begin c) before B.begins) in
       let r = t.state.register in
       let z : SettledApart c t l s a.reader.held = subst (λ k. SettledApart c t l k a.reader.held) a.next (subst (λ k. SettledApart c t k a.reader.next a.reader.held) a.log
-      (P (hs ++ happened c w.state asks ∷ []) t h name a.reader a.there (a.equal ∙ ap (λ j. (epochs_of r j).swaps) (sym a.log)) (subst (λ k. is_loss a.reader.next (set_at c r k (home_epoch a.reader.next)) a.reader.held ≡ true) (sym a.log) (subst (λ k. is_loss k (set_at c r l (home_epoch k)) a.reader.held ≡ true) (sym a.next) a.loss)))) in
+      (P (hs ++ step_happened c w.state asks ∷ []) t h name a.reader a.there (a.equal ∙ ap (λ j. (epochs_of r j).swaps) (sym a.log)) (subst (λ k. is_loss a.reader.next (set_at c r k (home_epoch a.reader.next)) a.reader.held ≡ true) (sym a.log) (subst (λ k. is_loss k (set_at c r l (home_epoch k)) a.reader.held ≡ true) (sym a.next) a.loss)))) in
       let lost : (y : ℕ) → In y (set_at c r l (home_epoch s)) → ((h : Held) → find y a.reader.held ≡ Some h → lacks s h.body ≡ true → ⊥) → is_lost_at l (home_epoch s) (node_at t.state y) ≡ true = λ y i none.
       (let o = open_at s y (set_at c r l (home_epoch s)) a.reader.held a.loss i in elim o.how [ inl v ↦ absurd (none o.answer o.held v) | inr v ↦ a.lost y o.answer i o.held v ]) in
       let any : (spec_of c r l (home_epoch s)).r ≤ how_many (λ n. is_lost_at l (home_epoch s) (node_at t.state n)) (set_at c r l (home_epoch s)) = elim z.copied [

@@ -4,7 +4,6 @@ use Rattle.std.proofs.lemmas.Bool.{ltb-true}
 use Rattle.ld_table.specs.Named.{find_named}
 use Rattle.ld_table.specs.Words.{is_in}
 use Rattle.ld_config.specs.declared.config.Config.{Config}
-use Rattle.ld_schedule.specs.declared.event.Event.{Event}
 use Rattle.ld_transcript.specs.declared.line.Line.{Line}
 use Rattle.ld_transcript.specs.declared.line.Line.TheVariants as lines
 use Rattle.ld_transcript.specs.declared.line.GapKind.TheVariants as gaps
@@ -28,6 +27,8 @@ use Rattle.ld_safety.proofs.LostAlong.{RoundsOf}
 use Rattle.ld_safety.proofs.LostSince.{Since, LostThen, again}
 use Rattle.ld_msg.specs.declared.style.Style.{Style}
 use Rattle.ld_safety.proofs.Batches.{one_of}
+use Rattle.ld_machine.specs.Calm as Calm
+use Rattle.ld_machine.specs.Calm.{Move}
 
 -- ---- lines ----
 
@@ -55,7 +56,7 @@ abbrev pub LossCause : Reader → ℕ → ℕ → ℕ → Type 0
 LossCause d next low high = ByConfirmation d next low high ⊎ ToldLost d low high
 
 -- a reader was given numbers as lost
-pub record LossGiven (s : State) (e : Event) (name : List ℕ) (low high : ℕ) : Type 0 where
+pub record LossGiven (s : State) (e : Move) (name : List ℕ) (low high : ℕ) : Type 0 where
   pub reader : Reader
   pub named : find_named name s.readers ≡ Some reader
   pub message : Msg
@@ -92,10 +93,10 @@ loss_item : (style : Style) (r : List ℕ) (until : ℕ) (is : List (ℕ × Item
 loss_item style r until is name low high i = let o = one_of style r until is (lines.Gap name gaps.DataLoss low high) (λ a n j m q. cc) i in let k = one_item r until o.item.0 o.item.1 name low high o.line in
     record { item = o.item; there = o.there; whose = k.whose; first = k.first; kind = k.kind }
 
-abbrev LossesOf : State → Event → List Line → Type 0
+abbrev LossesOf : State → Move → List Line → Type 0
 LossesOf s e ls = (name : List ℕ) (low high : ℕ) → In (lines.Gap name gaps.DataLoss low high) ls → LossGiven s e name low high
 
-reads_losses : (c : Config) (s : State) (e : Event) (name : List ℕ) (d : Reader) (m : Msg) → In m s.network.sent → m.to ≡ whos.Reader d.number → Reading s name d → Delivers s e m
+reads_losses : (c : Config) (s : State) (e : Move) (name : List ℕ) (d : Reader) (m : Msg) → In m s.network.sent → m.to ≡ whos.Reader d.number → Reading s name d → Delivers s e m
     → LossesOf s e (Step.item_lines (on_answer (looks_at c s.register d.log) d (Step.sender_node m.from) m.body).reader.style name (on_answer (looks_at c s.register d.log) d (Step.sender_node m.from) m.body).reader.until (on_answer (looks_at c s.register d.log) d (Step.sender_node m.from) m.body).items)
 reads_losses c s e name d m i t v o r low high j =
     let y = Step.sender_node m.from in
@@ -112,7 +113,7 @@ reads_losses c s e name d m i t v o r low high j =
             inr (inr (record { ended = subst (λ n. LossyEnd n (heard d (Step.sender_node m.from) m.body).held) (sym k.first) z.1; last = subst (λ n. high ≤ bridge_to n) (sym k.first) (omega arith) }))
       ]
 
-pub losses_given : (c : Config) (s : State) (e : Event) → NamesOnce s → LossesOf s e (Step.happens c s e).lines
+pub losses_given : (c : Config) (s : State) (e : Move) → NamesOnce s → LossesOf s e (Calm.moves c s e).lines
 losses_given c s e N = dispatch c s e (λ d m. LossesOf s e d.lines) N (line_cases c s e (LossesOf s e)
     (λ g ls n a name low high i. absurd (n (sym (a _ i))))
     (λ f name d m i t v o. reads_losses c s e name d m i t v o)
@@ -142,7 +143,7 @@ pub among_lost : (s y : ℕ) (h : Held) (set : List ℕ) (hs : List (ℕ × Held
 among_lost s y h set hs m i l = lost_among s y h (within set hs) (filter_in (λ (k : ℕ × Held). is_in k.0 set) (y, h) hs i (in_set y set m)) l
 
 -- when the last asked node has said again that it is lost, each of them was lost at the moment of the asks
-module _ (c : Config) (then w : World) (e : Event) (A : Apart w.state.network.sent w.state.readers) (R : RoundsOf w) (name : List ℕ) (d : Reader) (u : Confirmation) (P : Since then d.number d.log d.next u.round u.asked w)
+module _ (c : Config) (then w : World) (e : Move) (A : Apart w.state.network.sent w.state.readers) (R : RoundsOf w) (name : List ℕ) (d : Reader) (u : Confirmation) (P : Since then d.number d.log d.next u.round u.asked w)
     (f : find_named name w.state.readers ≡ Some d) (was : d.confirming ≡ Some u) (m : Msg) (i : In m w.state.network.sent) (t : m.to ≡ whos.Reader d.number) where
   all_told : (o : Option Confirmation) → (heard d (Step.sender_node m.from) m.body).confirming ≡ o → is_confirmed o ≡ true → (z g : ℕ) → OneOf z g u.asked → LostThen then d.number d.log d.next u.round u.asked z
   all_told None q h z g j = absurd cc

@@ -19,11 +19,11 @@ use Rattle.ld_machine.specs.Config.{set_at}
 use Rattle.ld_machine.specs.State.{node_at}
 use Rattle.ld_machine.specs.Facts.{Happened, Writes}
 use Rattle.ld_machine.specs.World.{World, In, Sent, begin}
-use Rattle.ld_machine.specs.Run.{next_world, history}
+use Rattle.ld_machine.specs.Run.{after_step, history}
 use Rattle.ld_machine.specs.Step as Step
 use Rattle.ld_safety.proofs.Lists.{not_none, all_in}
 use Rattle.ld_safety.proofs.Members.{find_in}
-use Rattle.ld_safety.proofs.Traces.{Keeps, happened, both_kept, beside_kept, at_step}
+use Rattle.ld_safety.proofs.Traces.{Keeps, step_happened, both_kept, beside_kept, at_step}
 use Rattle.ld_safety.proofs.GivenItems.{line_at}
 use Rattle.ld_safety.proofs.Registers.{Reached}
 use Rattle.ld_safety.proofs.LostNodes.{LostIn}
@@ -33,6 +33,8 @@ use Rattle.ld_safety.proofs.LostAlong.{Asked, asked_kept}
 use Rattle.ld_safety.proofs.LostSince.{Since, since_step}
 use Rattle.ld_safety.proofs.LostBegins.{StillThere, NewHere, lost_in, came, new_set, new_equal, since_new}
 use Rattle.ld_safety.proofs.LostLines.{LossGiven, ToldLost, losses_given, among_lost, confirmed_lost}
+use Rattle.ld_machine.specs.Calm as Calm
+use Rattle.ld_machine.specs.Calm.{Move}
 
 -- Q is whatever else is known of each state of the run
 module _ (c : Config) (Q : List Happened → World → Type 0) where
@@ -68,12 +70,12 @@ module _ (c : Config) (Q : List Happened → World → Type 0) where
   began_as hs w d x u v a b g h k z = subst (λ y. Began hs w x.number x.log x.next v.round y) (sym k) (subst (λ y. Began hs w x.number x.log x.next y u.asked) (sym h) (subst (λ y. Began hs w x.number x.log y u.round u.asked) (sym g)
       (subst (λ y. Began hs w x.number y d.next u.round u.asked) (sym b) (subst (λ y. Began hs w y d.log d.next u.round u.asked) (sym a) z))))
 
-  module _ (hs : List Happened) (w : World) (e : Event) (K : Known hs w) (L : Known (hs ++ happened c w.state e ∷ []) (next_world c w e)) (B : AllBegan hs w) where
-    still_began : (t : List ℕ) (x : Reader) (v : Confirmation) → StillThere c w.state t x v → Began (hs ++ happened c w.state e ∷ []) (next_world c w e) x.number x.log x.next v.round v.asked
+  module _ (hs : List Happened) (w : World) (e : Move) (K : Known hs w) (L : Known (hs ++ step_happened c w.state e ∷ []) (after_step c w e)) (B : AllBegan hs w) where
+    still_began : (t : List ℕ) (x : Reader) (v : Confirmation) → StillThere c w.state t x v → Began (hs ++ step_happened c w.state e ∷ []) (after_step c w e) x.number x.log x.next v.round v.asked
     still_began t x v o = let b = B t o.reader o.before o.named o.was in began_as _ _ o.reader x o.before v o.number o.log o.next o.round o.asked (record {
       before = b.before;
-      after = b.after ++ happened c w.state e ∷ [];
-      split = ap (λ y. y ++ happened c w.state e ∷ []) b.split ∙ append_assoc b.before b.after (happened c w.state e ∷ []);
+      after = b.after ++ step_happened c w.state e ∷ [];
+      split = ap (λ y. y ++ step_happened c w.state e ∷ []) b.split ∙ append_assoc b.before b.after (step_happened c w.state e ∷ []);
       step = b.step;
       place = b.place;
       then = b.then;
@@ -91,14 +93,14 @@ module _ (c : Config) (Q : List Happened → World → Type 0) where
       loss = b.loss;
     })
 
-    new_began : (t : List ℕ) (x : Reader) (v : Confirmation) → find_named t (next_world c w e).state.readers ≡ Some x → x.confirming ≡ Some v → NewHere c w.state (Step.happens c w.state e).sends t x v → Began (hs ++ happened c w.state e ∷ []) (next_world c w e) x.number x.log x.next v.round v.asked
+    new_began : (t : List ℕ) (x : Reader) (v : Confirmation) → find_named t (after_step c w e).state.readers ≡ Some x → x.confirming ≡ Some v → NewHere c w.state (Calm.moves c w.state e).sends t x v → Began (hs ++ step_happened c w.state e ∷ []) (after_step c w e) x.number x.log x.next v.round v.asked
     new_began t x v f h n = let z = new_set c w e K.0.0.0.0 K.0.0.1.1 K.0.1.1 L.0.0.1.1 L.0.1.1 t x v f h n K.0.0.1.0 K.0.1.0.1 in record {
-      before = hs ++ happened c w.state e ∷ [];
+      before = hs ++ step_happened c w.state e ∷ [];
       after = [];
-      split = sym (append-nil (hs ++ happened c w.state e ∷ []));
+      split = sym (append-nil (hs ++ step_happened c w.state e ∷ []));
       step = length hs;
-      place = length-append hs (happened c w.state e ∷ []);
-      then = next_world c w e;
+      place = length-append hs (step_happened c w.state e ∷ []);
+      then = after_step c w e;
       holds = L;
       since = since_new c w e K.0.0.0.0 K.0.0.1.1 K.0.1.1 L.0.0.1.1 L.0.1.1 t x v f h n;
       name = t;
@@ -113,7 +115,7 @@ module _ (c : Config) (Q : List Happened → World → Type 0) where
       loss = subst (λ (k : List ℕ). is_loss x.next k x.held ≡ true) z.2 n.loss;
     }
 
-    began_step : AllBegan (hs ++ happened c w.state e ∷ []) (next_world c w e)
+    began_step : AllBegan (hs ++ step_happened c w.state e ∷ []) (after_step c w e)
     began_step t x v f h = elim (came c w e K.0.0.0.0 t x v f h) [ inl o ↦ still_began t x v o | inr n ↦ new_began t x v f h n ]
 
   start_began : AllBegan [] (begin c)
@@ -164,7 +166,7 @@ module _ (c : Config) (Q : List Happened → World → Type 0) where
   confirmation_of d y b None q h = absurd cc
   confirmation_of d y b (Some v) q h = let o = heard_lasts d y b v q in (o.before, o.was)
 
-  module _ (hs : List Happened) (w : World) (e : Event) (M : Moments hs w) (name : List ℕ) (low high : ℕ) (g : LossGiven w.state e name low high) (by : is_confirmed (heard g.reader (Step.sender_node g.message.from) g.message.body).confirming ≡ true) where
+  module _ (hs : List Happened) (w : World) (e : Move) (M : Moments hs w) (name : List ℕ) (low high : ℕ) (g : LossGiven w.state e name low high) (by : is_confirmed (heard g.reader (Step.sender_node g.message.from) g.message.body).confirming ≡ true) where
     moment_of : LossMoment hs (length hs) g.reader.next g.reader
     moment_of =
         let u = confirmation_of g.reader (Step.sender_node g.message.from) g.message.body _ refl by in
@@ -210,7 +212,7 @@ module _ (c : Config) (Q : List Happened → World → Type 0) where
   pub loss_line : Keeps c Q → (es : List Event) (k : ℕ) (name : List ℕ) (low high : ℕ) → Writes (history c es) k (lines.Gap name gaps.DataLoss low high) → LossLine (history c es) k name low high
   loss_line K es k name low high x =
       let a = line_at c Moments es k _ (at_step c Moments (moments_kept K) es) (λ h. cc) x in
-      let g = losses_given c a.world.state a.event a.holds.0.0.0.0.0 name low high a.there in
+      let g = losses_given c a.world.state a.move a.holds.0.0.0.0.0 name low high a.there in
       record {
         before = a.before;
         after = a.after;
@@ -224,7 +226,7 @@ module _ (c : Config) (Q : List Happened → World → Type 0) where
         sent = g.sent;
         to = g.to;
         how = elim g.how [
-          | inl z ↦ inl (z.first ∙ sym z.last, subst (λ y. LossMoment a.before k y g.reader) (sym z.first) (subst (λ y. LossMoment a.before y g.reader.next g.reader) a.place (moment_of a.before a.world a.event a.holds name low high g z.confirmed)))
+          | inl z ↦ inl (z.first ∙ sym z.last, subst (λ y. LossMoment a.before k y g.reader) (sym z.first) (subst (λ y. LossMoment a.before y g.reader.next g.reader) a.place (moment_of a.before a.world a.move a.holds name low high g z.confirmed)))
           | inr z ↦ inr z
         ];
       }

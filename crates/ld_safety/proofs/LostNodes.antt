@@ -4,7 +4,6 @@ use Rattle.std.specs.Option.{unwrap_or}
 use Rattle.ld_table.specs.Table.{find}
 use Rattle.ld_table.proofs.Laws.{put_cases, find-put_same}
 use Rattle.ld_config.specs.declared.config.Config.{Config}
-use Rattle.ld_schedule.specs.declared.event.Event.{Event}
 use Rattle.ld_schedule.specs.declared.event.Picture.{Picture}
 use Rattle.ld_msg.specs.declared.msg.Body.{Body}
 use Rattle.ld_msg.specs.declared.msg.Body.TheVariants as bodies
@@ -20,6 +19,7 @@ use Rattle.ld_safety.proofs.Lists.{Some_inj, not_none, cond_both}
 use Rattle.ld_safety.proofs.RegisterSteps.{draw_granted}
 use Rattle.ld_safety.proofs.HoldSteps.{is_format, same_generation, handled_plain}
 use Rattle.ld_safety.proofs.NodeCases.{NodeKeeps}
+use Rattle.ld_machine.specs.Calm.{Move}
 
 -- one plain state that a load may find is lost for the epoch of the log, under the generation
 pub record LostIn (x : Node) (l e g : ℕ) : Type 0 where
@@ -126,7 +126,7 @@ no_lost l e g h = elim h.held [
 ]
 
 -- whoever is lost after a step, under a generation drawn before it, was so before the step
-pub lost_keeps : (c : Config) (s : State) (v : Event) → NodeKeeps c s v (λ y x. (l e g : ℕ) → g ≤ generation_of s.register y → LostIn x l e g → LostIn (node_at s y) l e g)
+pub lost_keeps : (c : Config) (s : State) (v : Move) → NodeKeeps c s v (λ y x. (l e g : ℕ) → g ≤ generation_of s.register y → LostIn x l e g → LostIn (node_at s y) l e g)
 lost_keeps c s v = record {
   all = λ y l e g b h. h;
   hears = λ n m i t u l e g b h. released_lost (node_at s n) m.log m.body l e g h;

@@ -3,7 +3,6 @@ use Rattle.std.proofs.Common.{◌≡◌, ◌∙◌, ◌⊎◌, ◌≤◌, ◌<�
 use Rattle.std.proofs.lemmas.Bool.{and_parts, and_from, or_cases, eqb-true}
 use Rattle.ld_table.specs.Words.{is_in, how_many}
 use Rattle.ld_config.specs.declared.config.Config.{Config}
-use Rattle.ld_schedule.specs.declared.event.Event.{Event}
 use Rattle.ld_ids.specs.Choice.{nodes_of}
 use Rattle.ld_ids.specs.declared.set.Spec.{Spec}
 use Rattle.ld_msg.specs.Register.{lce_of}
@@ -14,11 +13,11 @@ use Rattle.ld_machine.specs.State.{node_at}
 use Rattle.ld_machine.specs.Facts.{Happened, Standing, Lost, standing, stands_for, stands_lost, spec_now, has_epoch}
 use Rattle.ld_machine.specs.Safe.{Lacking}
 use Rattle.ld_machine.specs.World.{World, Made, In, begin, made_on, is_gone, is_cut_gone}
-use Rattle.ld_machine.specs.Run.{Move, Takes, next_world, world_after, trace}
+use Rattle.ld_machine.specs.Run.{Move, after_step, world_after, trace}
 use Rattle.ld_safety.specs.Lost.{MadeOfLost}
 use Rattle.ld_safety.proofs.Lists.{In-append, not_both, count_mono}
 use Rattle.ld_safety.proofs.Losses.{filter_passes}
-use Rattle.ld_safety.proofs.Traces.{Keeps, happened, later, both_kept, beside_kept}
+use Rattle.ld_safety.proofs.Traces.{Keeps, step_happened, later, both_kept, beside_kept}
 use Rattle.ld_safety.proofs.Base.{Base}
 use Rattle.ld_safety.proofs.GivenSteps.{BaseGiven}
 use Rattle.ld_safety.proofs.FixedNow.{AllNow, now_kept, now_said}
@@ -31,6 +30,7 @@ use Rattle.ld_safety.proofs.LostStanding.{Stands}
 use Rattle.ld_safety.proofs.LostKept.{Standings, standings_kept}
 use Rattle.ld_safety.proofs.LostActive.{epoch_lower}
 use Rattle.ld_safety.proofs.LostActiveKept.{Active, active_kept}
+use Rattle.ld_machine.specs.Calm.{event_of}
 
 -- ---- lists ----
 pub take_left : {X : Type 0} (n : ℕ) (xs ys : List X) → n ≤ length xs → take n (xs ++ ys) ≡ take n xs
@@ -82,7 +82,7 @@ telling_kept c = both_kept c (λ hs w. BaseGiven c hs w × Along c hs w) (λ hs 
     (both_kept c (λ hs w. Base c hs w × Standings c hs w) (λ hs w. (BaseGiven c hs w × Active c hs w) × AllNow c hs w) (standings_kept c)
     (both_kept c (λ hs w. BaseGiven c hs w × Active c hs w) (λ hs w. AllNow c hs w) (active_kept c) (now_kept c)))
 
-module _ (c : Config) (hs : List Happened) (w : World) (v : Event) (T : Telling c hs w) (l e b : ℕ) (d : Basis) (i : In (plan_of l e b d) (made_on c w.state v)) (lo : d.loss ≡ true) where
+module _ (c : Config) (hs : List Happened) (w : World) (v : Move) (T : Telling c hs w) (l e b : ℕ) (d : Basis) (i : In (plan_of l e b d) (made_on c w.state (event_of v))) (lo : d.loss ≡ true) where
   -- its sequencer has an active line
   active_then : has_epoch l e hs ≡ true
   active_then =
@@ -119,8 +119,8 @@ module _ (c : Config) (hs : List Happened) (w : World) (v : Event) (T : Telling 
 abbrev pub PlansLacked : Config → List Happened → World → Type 0
 PlansLacked c hs w = (l e b : ℕ) (d : Basis) → In (plan_of l e b d) w.made → d.loss ≡ true → Lacked c hs l e
 
-lacked_step : (c : Config) (hs : List Happened) (w : World) (v : Event) → Telling c hs w → PlansLacked c hs w → PlansLacked c (hs ++ happened c w.state v ∷ []) (next_world c w v)
-lacked_step c hs w v T P l e b d i lo = lacked_later c hs (happened c w.state v ∷ []) l e (elim (In-append (plan_of l e b d) (made_on c w.state v) w.made i) [ inl j ↦ plan_lacked c hs w v T l e b d j lo | inr j ↦ P l e b d j lo ])
+lacked_step : (c : Config) (hs : List Happened) (w : World) (v : Move) → Telling c hs w → PlansLacked c hs w → PlansLacked c (hs ++ step_happened c w.state v ∷ []) (after_step c w v)
+lacked_step c hs w v T P l e b d i lo = lacked_later c hs (step_happened c w.state v ∷ []) l e (elim (In-append (plan_of l e b d) (made_on c w.state (event_of v)) w.made i) [ inl j ↦ plan_lacked c hs w v T l e b d j lo | inr j ↦ P l e b d j lo ])
 
 pub lacked_kept : (c : Config) → Keeps c (λ hs w. Telling c hs w × PlansLacked c hs w)
 lacked_kept c = beside_kept c (Telling c) (PlansLacked c) (telling_kept c) (λ l e b d i. absurd i) (λ hs w v T C P. lacked_step c hs w v T P)
@@ -130,20 +130,20 @@ lacked_kept c = beside_kept c (Telling c) (PlansLacked c) (telling_kept c) (λ l
 -- a plan was there, or one of the steps makes it
 record MadeIn (c : Config) (w : World) (steps : List Move) (m : Made) : Type 0 where
   earlier : List Move
-  event : Event
+  move : Move
   after : List Move
-  split : steps ≡ earlier ++ Takes event ∷ after
-  makes : In m (made_on c (world_after c w earlier).state event)
+  split : steps ≡ earlier ++ move ∷ after
+  makes : In m (made_on c (world_after c w earlier).state (event_of move))
 
 made_in : (c : Config) (w : World) (steps : List Move) (m : Made) → In m (world_after c w steps).made → In m w.made ⊎ MadeIn c w steps m
 unfolding world_after
 made_in c w [] m i = inl i
-made_in c w (Takes v ∷ steps) m i = elim (made_in c (next_world c w v) steps m i) [
-  | inl j ↦ elim (In-append m (made_on c w.state v) w.made j) [
-    | inl k ↦ inr (record { earlier = []; event = v; after = steps; split = refl; makes = k })
+made_in c w (v ∷ steps) m i = elim (made_in c (after_step c w v) steps m i) [
+  | inl j ↦ elim (In-append m (made_on c w.state (event_of v)) w.made j) [
+    | inl k ↦ inr (record { earlier = []; move = v; after = steps; split = refl; makes = k })
     | inr k ↦ inl k
   ]
-  | inr s ↦ inr (record { earlier = Takes v ∷ s.earlier; event = s.event; after = s.after; split = ap (λ (ms : List Move). Takes v ∷ ms) s.split; makes = s.makes })
+  | inr s ↦ inr (record { earlier = v ∷ s.earlier; move = s.move; after = s.after; split = ap (λ (ms : List Move). v ∷ ms) s.split; makes = s.makes })
 ]
 
 -- before a plan that says what is lost so many stood lost
@@ -152,10 +152,10 @@ made_of_lost c steps l e b d i lo = elim (made_in c (begin c) steps (plan_of l e
   | inl j ↦ absurd j
   | inr s ↦ record {
     earlier = s.earlier;
-    event = s.event;
+    move = s.move;
     after = s.after;
     split = s.split;
     makes = s.makes;
-    stood = plan_stood c (trace c (begin c) s.earlier) (world_after c (begin c) s.earlier) s.event (later c (Telling c) (telling_kept c) [] (begin c) s.earlier (telling_kept c).begins) l e b d s.makes lo;
+    stood = plan_stood c (trace c (begin c) s.earlier) (world_after c (begin c) s.earlier) s.move (later c (Telling c) (telling_kept c) [] (begin c) s.earlier (telling_kept c).begins) l e b d s.makes lo;
   }
 ]

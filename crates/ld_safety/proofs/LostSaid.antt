@@ -5,7 +5,6 @@ use Rattle.std.proofs.lemmas.Bool.{and_parts, and_from, or_cases, or_left, or_ri
 use Rattle.ld_table.specs.Table.{find}
 use Rattle.ld_lsn.specs.Number.{epoch_of, home_epoch, is_epoch_end}
 use Rattle.ld_config.specs.declared.config.Config.{Config}
-use Rattle.ld_schedule.specs.declared.event.Event.{Event}
 use Rattle.ld_msg.specs.declared.msg.Msg.{Msg}
 use Rattle.ld_msg.specs.declared.msg.Who.{Who}
 use Rattle.ld_msg.specs.declared.msg.Who.TheVariants as whos
@@ -22,7 +21,7 @@ use Rattle.ld_msg.specs.Register.{Register, no_epochs, epochs_of, epochs_in, dra
 use Rattle.ld_machine.specs.Disk.{Node, Cut, new_node, keep_op, load}
 use Rattle.ld_machine.specs.State.{State, node_at, posted}
 use Rattle.ld_machine.specs.World.{World, In, MayHold, Unserved, from_node, is_gone, is_cut_gone}
-use Rattle.ld_machine.specs.Run.{next_world}
+use Rattle.ld_machine.specs.Run.{after_step}
 use Rattle.ld_machine.specs.Step as Step
 use Rattle.ld_safety.proofs.Lists.{Some_inj, not_none, not_both, cond_both, only}
 use Rattle.ld_safety.proofs.Rising.{Rising}
@@ -37,6 +36,7 @@ use Rattle.ld_safety.proofs.LostTalk.{TalkKeeps, talked, new_or_old}
 use Rattle.ld_safety.proofs.LostUnserved.{AllUnserved, unserved_step}
 use Rattle.ld_safety.proofs.Fallen.{AllFallen, lost_fallen, fallen_step}
 use Rattle.ld_safety.proofs.Withheld.{of_one, one_kind}
+use Rattle.ld_machine.specs.Calm.{Move}
 
 -- ---- a node is lost for epochs alone that were handed out ----
 abbrev pub LostWithin : Register → Node → Type 0
@@ -62,7 +62,7 @@ unfolding find
 blank_within r p (inl q) l e t = absurd (let z : is_lost (log_of unformatted l) e ≡ true = subst (λ v. is_lost (log_of v l) e ≡ true) q t in cc)
 blank_within r p (inr q) l e t = absurd (not_none q.1)
 
-pub within_keeps : (c : Config) (s : State) (v : Event) → Rising s.register.logs → ((y : ℕ) → LostWithin s.register (node_at s y)) → NodeKeeps c s v (λ y x. LostWithin s.register x)
+pub within_keeps : (c : Config) (s : State) (v : Move) → Rising s.register.logs → ((y : ℕ) → LostWithin s.register (node_at s y)) → NodeKeeps c s v (λ y x. LostWithin s.register x)
 within_keeps c s v R h = record {
   all = h;
   hears = λ n m i t u p q. h n p (released_from (node_at s n) m.log m.body p q);
@@ -214,7 +214,7 @@ posted_on who l (x ∷ bs) m b (inr i) t = posted_on who l bs m b i t
 abbrev pub SaidLost : State → Type 0
 SaidLost s = (l y b n round g end : ℕ) → In (from_node l y b (bodies.LostHere n round g end)) s.network.sent → 0 < home_epoch n → (home_epoch n ≤ (epochs_of s.register l).epoch) × AllUnserved (node_at s y) l (home_epoch n) × AllFallen (node_at s y) l (home_epoch n)
 
-module _ (c : Config) (w : World) (e : Event) (ups : (y : ℕ) → UpFine (node_at w.state y)) (within : (y : ℕ) → LostWithin w.state.register (node_at w.state y)) where
+module _ (c : Config) (w : World) (e : Move) (ups : (y : ℕ) → UpFine (node_at w.state y)) (within : (y : ℕ) → LostWithin w.state.register (node_at w.state y)) where
   -- what holds of the messages of a step
   record NewSaid (ms : List Msg) : Type 0 where
     lost : (m : Msg) (l y b n : ℕ) → In m ms → m.from ≡ whos.Node y → m.to ≡ whos.Sequencer b → m.log ≡ l → says_lost n m.body ≡ true → 0 < home_epoch n → (home_epoch n ≤ (epochs_of w.state.register l).epoch) × AllUnserved (node_at w.state y) l (home_epoch n) × AllFallen (node_at w.state y) l (home_epoch n)
@@ -264,7 +264,7 @@ module _ (c : Config) (w : World) (e : Event) (ups : (y : ℕ) → UpFine (node_
     opens = λ style name l from until o. none_said;
   }
 
-  pub said_step : NamesOnce w.state → ((l : ℕ) → (epochs_of w.state.register l).epoch ≤ (epochs_of (next_world c w e).state.register l).epoch) → SaidLost w.state → SaidLost (next_world c w e).state
+  pub said_step : NamesOnce w.state → ((l : ℕ) → (epochs_of w.state.register l).epoch ≤ (epochs_of (after_step c w e).state.register l).epoch) → SaidLost w.state → SaidLost (after_step c w e).state
   said_step N up S l y b n round g end i p =
       let t = talked c w.state e (λ ms ds. NewSaid ms) said_talk N in
       let z : (home_epoch n ≤ (epochs_of w.state.register l).epoch) × AllUnserved (node_at w.state y) l (home_epoch n) × AllFallen (node_at w.state y) l (home_epoch n) = elim (new_or_old c w.state e (from_node l y b (bodies.LostHere n round g end)) t.same i) [
@@ -273,7 +273,7 @@ module _ (c : Config) (w : World) (e : Event) (ups : (y : ℕ) → UpFine (node_
       ] in let u = up l in let v = z.0 in (omega arith, unserved_step c w e N y l (home_epoch n) p z.0 z.1, fallen_step c w e N y l (home_epoch n) p z.0 z.2)
 
   -- a node that doesn't serve an epoch gives no page of it
-  pub page_before : NamesOnce w.state → (l y b from upto trim lng : ℕ) (es : List Entry) → AllUnserved (node_at w.state y) l (epoch_of from) → In (from_node l y b (bodies.DigestPage from upto trim lng es)) (next_world c w e).state.network.sent → In (from_node l y b (bodies.DigestPage from upto trim lng es)) w.state.network.sent
+  pub page_before : NamesOnce w.state → (l y b from upto trim lng : ℕ) (es : List Entry) → AllUnserved (node_at w.state y) l (epoch_of from) → In (from_node l y b (bodies.DigestPage from upto trim lng es)) (after_step c w e).state.network.sent → In (from_node l y b (bodies.DigestPage from upto trim lng es)) w.state.network.sent
   page_before N l y b from upto trim lng es u i = let t = talked c w.state e (λ ms ds. NewSaid ms) said_talk N in elim (new_or_old c w.state e (from_node l y b (bodies.DigestPage from upto trim lng es)) t.same i) [
     | inl o ↦ o
     | inr o ↦ absurd (t.talk.page (from_node l y b (bodies.DigestPage from upto trim lng es)) l y b (epoch_of from) o refl refl refl (eq-eqb (epoch_of from) (epoch_of from) refl) u)

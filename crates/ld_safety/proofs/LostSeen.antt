@@ -3,13 +3,12 @@ use Rattle.std.proofs.Common.{◌≡◌, ◌∙◌, ◌≤◌, ◌<◌, ℕ, inl
 use Rattle.std.proofs.lemmas.Bool.{and_parts, eqb-true, leb-true}
 use Rattle.ld_table.specs.Named.{find_named, put_named}
 use Rattle.ld_config.specs.declared.config.Config.{Config}
-use Rattle.ld_schedule.specs.declared.event.Event.{Event}
 use Rattle.ld_msg.specs.Register.{Register, View, epochs_of, look}
 use Rattle.ld_msg.specs.Reader.{Reader, opened, polled, on_answer, seen_nodes, has_seen, shown_swaps}
 use Rattle.ld_machine.specs.Config.{looks_at, set_at}
 use Rattle.ld_machine.specs.State.{State, finish}
 use Rattle.ld_machine.specs.World.{World, begin}
-use Rattle.ld_machine.specs.Run.{next_world}
+use Rattle.ld_machine.specs.Run.{after_step}
 use Rattle.ld_machine.specs.Step as Step
 use Rattle.ld_safety.proofs.Lists.{not_none}
 use Rattle.ld_safety.proofs.Events.{NamesOnce}
@@ -18,6 +17,8 @@ use Rattle.ld_safety.proofs.Joins.{CountStep, counts_step}
 use Rattle.ld_safety.proofs.LostReads.{SeenBy, polled_seen, read_on}
 use Rattle.ld_safety.proofs.LostTalk.{TalkKeeps, talked}
 use Rattle.ld_safety.proofs.LostRounds.{found_in}
+use Rattle.ld_machine.specs.Calm as Calm
+use Rattle.ld_machine.specs.Calm.{Move}
 
 -- what a look showed: the nodes of an epoch as they are now, where no swap has been since
 pub record Shows (c : Config) (r : Register) (l : ℕ) (o : Option View) : Type 0 where
@@ -51,7 +52,7 @@ shows_later c r n l o u s h = record {
 abbrev pub AllShow : Config → Register → List (List ℕ × Reader) → Type 0
 AllShow c r ds = (t : List ℕ) (d : Reader) → find_named t ds ≡ Some d → Shows c r d.log d.seen
 
-module _ (c : Config) (s : State) (e : Event) (A : AllShow c s.register s.readers) where
+module _ (c : Config) (s : State) (e : Move) (A : AllShow c s.register s.readers) where
   put_shows : (name : List ℕ) (x : Reader) → Shows c s.register x.log x.seen → AllShow c s.register (put_named name x s.readers)
   put_shows name x h t z f = elim (found_in t name x z s.readers f) [ inl a ↦ subst (λ (y : Reader). Shows c s.register y.log y.seen) a.1 h | inr a ↦ A t z a.1 ]
 
@@ -66,9 +67,9 @@ module _ (c : Config) (s : State) (e : Event) (A : AllShow c s.register s.reader
     opens = λ style name l from until o. put_shows name (opened style l (length s.readers) from until) (none_shows c s.register l);
   }
 
-pub shows_step : (c : Config) (w : World) (e : Event) → NamesOnce w.state → OnlyClosed w.state.register → AllShow c w.state.register w.state.readers → AllShow c (next_world c w e).state.register (next_world c w e).state.readers
+pub shows_step : (c : Config) (w : World) (e : Move) → NamesOnce w.state → OnlyClosed w.state.register → AllShow c w.state.register w.state.readers → AllShow c (after_step c w e).state.register (after_step c w e).state.readers
 unfolding finish
-shows_step c w e N O A t d f = shows_later c w.state.register (Step.happens c w.state e).state.register d.log d.seen (follows c w.state e N O).0 (counts_step c w.state e N (follows c w.state e N O).0 d.log) ((talked c w.state e (λ ms ds. AllShow c w.state.register ds) (shows_talk c w.state e A) N).talk t d f)
+shows_step c w e N O A t d f = shows_later c w.state.register (Calm.moves c w.state e).state.register d.log d.seen (follows c w.state e N O).0 (counts_step c w.state e N (follows c w.state e N O).0 d.log) ((talked c w.state e (λ ms ds. AllShow c w.state.register ds) (shows_talk c w.state e A) N).talk t d f)
 
 pub start_shows : (c : Config) → AllShow c (begin c).state.register (begin c).state.readers
 unfolding find_named

@@ -22,7 +22,7 @@ use Rattle.ld_machine.specs.Safe.{LossesHappened}
 use Rattle.ld_machine.specs.World.{World, In, Sent, begin, has_told, has_joined, says_stored, says_settled}
 use Rattle.ld_machine.specs.Invariant.{Closed}
 use Rattle.ld_machine.specs.Losses.{EndsAsLoss}
-use Rattle.ld_machine.specs.Run.{Move, Takes, history, next_world, world_after}
+use Rattle.ld_machine.specs.Run.{Move, history, after_step, world_after}
 use Rattle.ld_safety.specs.Lost.{CopiesAreLost, has_copied}
 use Rattle.ld_safety.proofs.Lists.{Some_inj, not_none, any_in, not_both, count_mono}
 use Rattle.ld_safety.proofs.Members.{find_in, In_filter}
@@ -249,5 +249,5 @@ module _ (c : Config) (Q : List Happened → World → Type 0) (C : (hs : List H
   pub happened : Keeps c Q → LossesTold c Q → (es : List Event) → LossesHappened c (history c es)
   happened K T es = losses_happened c (Seeing c Q C) (seeing_kept c Q C K) losses_settled (λ hs w k. T hs w (k.0, k.1.0.0.0.1)) es
 
-  pub stood : Keeps c Q → (name : List ℕ) (l s round : ℕ) (before : List Move) (asks : Event) (between : List Move) (gives : Event) → EndsAsLoss c name l s round before (Takes asks) between (Takes gives) → CopiesAreLost c (next_world c (world_after c (begin c) before) asks) l s
+  pub stood : Keeps c Q → (name : List ℕ) (l s round : ℕ) (before : List Move) (asks : Move) (between : List Move) (gives : Move) → EndsAsLoss c name l s round before asks between gives → CopiesAreLost c (after_step c (world_after c (begin c) before) asks) l s
   stood K name l s round before asks between gives E = copies_are_lost c (Seeing c Q C) (seeing_kept c Q C K) losses_settled name l s round before asks between gives E

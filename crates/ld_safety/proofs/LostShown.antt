@@ -6,7 +6,6 @@ use Rattle.ld_table.specs.Words.{how_many}
 use Rattle.ld_table.proofs.Laws.{put_cases}
 use Rattle.ld_lsn.specs.Number.{numbered, home_epoch}
 use Rattle.ld_config.specs.declared.config.Config.{Config}
-use Rattle.ld_schedule.specs.declared.event.Event.{Event}
 use Rattle.ld_msg.specs.declared.msg.Msg.{Msg}
 use Rattle.ld_msg.specs.declared.msg.Who.{Who}
 use Rattle.ld_msg.specs.declared.msg.Who.TheVariants as whos
@@ -25,7 +24,7 @@ use Rattle.ld_machine.specs.State.{finish, node_at, posted}
 use Rattle.ld_machine.specs.Facts.{Happened}
 use Rattle.ld_machine.specs.World.{World, In, Sent, MayHold, Unserved}
 use Rattle.ld_machine.specs.Invariant.{Closed}
-use Rattle.ld_machine.specs.Run.{next_world}
+use Rattle.ld_machine.specs.Run.{after_step}
 use Rattle.ld_machine.specs.Step as Step
 use Rattle.ld_safety.proofs.Lists.{not_none, only, count_mono}
 use Rattle.ld_safety.proofs.Traces.{Keeps, both_kept, beside_kept}
@@ -42,6 +41,8 @@ use Rattle.ld_safety.proofs.LostUnserved.{unserved_step}
 use Rattle.ld_safety.proofs.LostTold.{told_copied, copied_before, copied_after}
 use Rattle.ld_safety.proofs.LostPages.{Enough, CleanKept, CleanPage, KnownEnd, home_is, known_end, page_of}
 use Rattle.ld_safety.proofs.Withheld.{still_there}
+use Rattle.ld_machine.specs.Calm as Calm
+use Rattle.ld_machine.specs.Calm.{Move}
 
 -- ---- closed epochs stay closed ----
 abbrev pub StaysClosed : Register → Register → Type 0
@@ -56,7 +57,7 @@ put_stays r n l x a s k e z h = elim (epochs_put r l k x) [
   | inr p ↦ ap (λ (v : Epochs). find e v.summaries) (epochs_same (with_epochs r l x) n k s ∙ p.1) ∙ h
 ]
 
-pub closed_step : (c : Config) (w : World) (v : Event) → NamesOnce w.state → OnlyClosed w.state.register → StaysClosed w.state.register (next_world c w v).state.register
+pub closed_step : (c : Config) (w : World) (v : Move) → NamesOnce w.state → OnlyClosed w.state.register → StaysClosed w.state.register (after_step c w v).state.register
 unfolding finish
 closed_step c w v N h = let r = w.state.register in register_kept c w.state v (λ n. StaysClosed r n) (logs_stay r r refl)
     (λ l g. let p = Step.spec_set c w.state l in elim (activate_leaves r l p) [ inl a ↦ logs_stay r (activate r l p).register a.0 | inr a ↦ put_stays r (activate r l p).register l (next_epoch (epochs_of r l) p) (λ e z q. q) a.1 ])
@@ -68,7 +69,7 @@ closed_step c w v N h = let r = w.state.register in register_kept c w.state v (�
     (λ l upto old new. elim (swap_leaves r l upto old new) [ inl a ↦ logs_stay r (swap r l upto old new).register a.0 | inr a ↦ put_stays r (swap r l upto old new).register l (swapped_epochs (epochs_of r l) upto old new) (λ e z q. q) a ])
     (λ n q. logs_stay r n q) N
 
-only_closed_step : (c : Config) (w : World) (v : Event) → NamesOnce w.state → OnlyClosed w.state.register → OnlyClosed (next_world c w v).state.register
+only_closed_step : (c : Config) (w : World) (v : Move) → NamesOnce w.state → OnlyClosed w.state.register → OnlyClosed (after_step c w v).state.register
 unfolding finish
 only_closed_step c w v N h = (follows c w.state v N h).1
 
@@ -80,20 +81,20 @@ pub record PageFacts (c : Config) (w : World) (y l : ℕ) (b : Body) : Type 0 wh
 abbrev pub Facts : Config → World → Msg → Type 0
 Facts c w m = (r : ℕ) → m.to ≡ whos.Reader r → PageFacts c w (Step.sender_node m.from) m.log m.body
 
-module _ (c : Config) (w : World) (v : Event) (N : NamesOnce w.state) (O : OnlyClosed w.state.register) (K : CleanKept c w) (up : (n l : ℕ) → Serves c w.state n l → ((node_at w.state n).cut ≡ None) × (0 < (node_at w.state n).plain.generation)) (R : RoundsOf w) where
+module _ (c : Config) (w : World) (v : Move) (N : NamesOnce w.state) (O : OnlyClosed w.state.register) (K : CleanKept c w) (up : (n l : ℕ) → Serves c w.state n l → ((node_at w.state n).cut ≡ None) × (0 < (node_at w.state n).plain.generation)) (R : RoundsOf w) where
   -- ---- a step later ----
-  closed_later : (l e : ℕ) (z : Summary) → Closed w l e z → Closed (next_world c w v) l e z
+  closed_later : (l e : ℕ) (z : Summary) → Closed w l e z → Closed (after_step c w v) l e z
   closed_later l e z h = closed_step c w v N O l e z h
 
-  spec_later : (l e : ℕ) → 0 < e → e ≤ (epochs_of w.state.register l).epoch → fixed_of c (next_world c w v).state.register l e ≡ fixed_of c w.state.register l e
+  spec_later : (l e : ℕ) → 0 < e → e ≤ (epochs_of w.state.register l).epoch → fixed_of c (after_step c w v).state.register l e ≡ fixed_of c w.state.register l e
   unfolding finish
-  spec_later l e p b = spec_stays c w.state.register (Step.happens c w.state v).state.register (follows c w.state v N O).0 (specs_stay c w.state v N) l e (p, b)
+  spec_later l e p b = spec_stays c w.state.register (Calm.moves c w.state v).state.register (follows c w.state v N O).0 (specs_stay c w.state v N) l e (p, b)
 
-  enough_later : (l s : ℕ) (z : Summary) → 0 < home_epoch s → home_epoch s ≤ (epochs_of w.state.register l).epoch → Enough c w l s z → Enough c (next_world c w v) l s z
-  enough_later l s z p b h = subst (λ (k : Spec). k.r ≤ how_many (told_copied (next_world c w v) l s z) (nodes_of k)) (sym (spec_later l (home_epoch s) p b))
-      (let k = count_mono (told_copied w l s z) (told_copied (next_world c w v) l s z) (fixed_at c w.state.register l (home_epoch s)) (λ y i t. copied_after c w v (λ n j u. (up n j u).1) N y l s z t) in omega arith)
+  enough_later : (l s : ℕ) (z : Summary) → 0 < home_epoch s → home_epoch s ≤ (epochs_of w.state.register l).epoch → Enough c w l s z → Enough c (after_step c w v) l s z
+  enough_later l s z p b h = subst (λ (k : Spec). k.r ≤ how_many (told_copied (after_step c w v) l s z) (nodes_of k)) (sym (spec_later l (home_epoch s) p b))
+      (let k = count_mono (told_copied w l s z) (told_copied (after_step c w v) l s z) (fixed_at c w.state.register l (home_epoch s)) (λ y i t. copied_after c w v (λ n j u. (up n j u).1) N y l s z t) in omega arith)
 
-  page_later : (y l from upto : ℕ) (es : List Entry) → CleanPage c w y l from upto es → CleanPage c (next_world c w v) y l from upto es
+  page_later : (y l from upto : ℕ) (es : List Entry) → CleanPage c w y l from upto es → CleanPage c (after_step c w v) y l from upto es
   page_later y l from upto es P = let k = K.bounded l (home_epoch from) P.summary P.closed P.positive in let b = k.0 in record {
     summary = P.summary;
     closed = closed_later l (home_epoch from) P.summary P.closed;
@@ -111,7 +112,7 @@ module _ (c : Config) (w : World) (v : Event) (N : NamesOnce w.state) (O : OnlyC
     unserved = unserved_step c w v N y l (home_epoch from) P.positive b P.unserved;
   }
 
-  facts_later : (y l : ℕ) (b : Body) → PageFacts c w y l b → PageFacts c (next_world c w v) y l b
+  facts_later : (y l : ℕ) (b : Body) → PageFacts c w y l b → PageFacts c (after_step c w v) y l b
   facts_later y l b F = record {
     ends = λ n u g end q p. let k = F.ends n u g end q p in record { summary = k.summary; closed = closed_later l (home_epoch n) k.summary k.closed; positive = k.positive; above = k.above; is = k.is };
     pages = λ u from upto es q. page_later y l from upto es (F.pages u from upto es q);
@@ -186,7 +187,7 @@ module _ (c : Config) (w : World) (v : Event) (N : NamesOnce w.state) (O : OnlyC
     opens = λ style name l from until o m i. absurd i;
   }
 
-  pub facts_step : ((m : Msg) → Sent w m → Facts c w m) → (m : Msg) → Sent (next_world c w v) m → Facts c (next_world c w v) m
+  pub facts_step : ((m : Msg) → Sent w m → Facts c w m) → (m : Msg) → Sent (after_step c w v) m → Facts c (after_step c w v) m
   facts_step F m i r t = let k = talked c w.state v (λ ms ds. (m : Msg) → In m ms → Facts c w m) facts_talk N in facts_later (Step.sender_node m.from) m.log m.body (elim (new_or_old c w.state v m k.same i) [ inl o ↦ F m o r t | inr n ↦ k.talk m n r t ])
 
 -- ---- along a run ----
@@ -200,7 +201,7 @@ module _ (c : Config) (Q : List Happened → World → Type 0) (C : (hs : List H
   abbrev pub Shown : List Happened → World → Type 0
   Shown hs w = Grounds hs w × Told w
 
-  told_step : (hs : List Happened) (w : World) (v : Event) → Grounds hs w → Told w → Told (next_world c w v)
+  told_step : (hs : List Happened) (w : World) (v : Move) → Grounds hs w → Told w → Told (after_step c w v)
   told_step hs w v G T = let N = G.0.0.0.0.0 in (
     only_closed_step c w v N T.0,
     facts_step c w v N T.0 (C hs w G.0.1) (λ n l S. (G.1.1.1 n l).up S.up) G.0.0.1.1 T.1,

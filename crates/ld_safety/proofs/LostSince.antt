@@ -5,7 +5,6 @@ use Rattle.ld_table.specs.Named.{find_named, put_named}
 use Rattle.ld_table.specs.Words.{is_in}
 use Rattle.ld_lsn.specs.Number.{home_epoch}
 use Rattle.ld_config.specs.declared.config.Config.{Config}
-use Rattle.ld_schedule.specs.declared.event.Event.{Event}
 use Rattle.ld_msg.specs.declared.msg.Msg.{Msg}
 use Rattle.ld_msg.specs.declared.msg.Who.TheVariants as whos
 use Rattle.ld_msg.specs.declared.msg.Body.{Body}
@@ -16,7 +15,7 @@ use Rattle.ld_machine.specs.Config.{looks_at}
 use Rattle.ld_op.specs.Plain.{Plain, log_of, is_lost}
 use Rattle.ld_machine.specs.State.{node_at, posted}
 use Rattle.ld_machine.specs.World.{World, In}
-use Rattle.ld_machine.specs.Run.{next_world}
+use Rattle.ld_machine.specs.Run.{after_step}
 use Rattle.ld_machine.specs.Step as Step
 use Rattle.ld_safety.proofs.Lists.{Some_inj, not_none, only}
 use Rattle.ld_safety.proofs.Names.{named_cases}
@@ -30,6 +29,8 @@ use Rattle.ld_safety.proofs.LostRounds.{ask_answer, found_in, posted_to, ask_par
 use Rattle.ld_safety.proofs.LostAlong.{RoundsOf}
 use Rattle.ld_msg.specs.declared.style.Style.{Style}
 use Rattle.ld_safety.proofs.ReaderSteps.{IsAskOf}
+use Rattle.ld_machine.specs.Calm as Calm
+use Rattle.ld_machine.specs.Calm.{Move}
 
 -- the world in which the asks were sent; the reader's number and log, the number asked, the round, and the nodes asked with their generations
 module _ (then : World) (r l s round : ℕ) (asked : List (ℕ × ℕ)) where
@@ -74,7 +75,7 @@ module _ (then : World) (r l s round : ℕ) (asked : List (ℕ × ℕ)) where
     pub talk : SinceTalk w.state.network.sent w.state.readers
 
   -- ---- one event ----
-  module _ (c : Config) (w : World) (e : Event) (A : Apart w.state.network.sent w.state.readers) (R : RoundsOf w) (P : Since w) where
+  module _ (c : Config) (w : World) (e : Move) (A : Apart w.state.network.sent w.state.readers) (R : RoundsOf w) (P : Since w) where
     elsewhere_since : (m : Msg) → Elsewhere m → SinceMsg m
     elsewhere_since m h = record {
       log = λ q. absurd (elim q [ inl a ↦ to_node a | inr a ↦ h.whose r a ]);
@@ -183,10 +184,10 @@ module _ (then : World) (r l s round : ℕ) (asked : List (ℕ × ℕ)) where
       opens = λ style name k from until o. opened_since style name k from until o.fresh_name;
     }
 
-    pub since_step : NamesOnce w.state → Since (next_world c w e)
+    pub since_step : NamesOnce w.state → Since (after_step c w e)
     since_step N = let t = talked c w.state e SinceTalk since_talk N in record {
-      back = back_on then w (next_world c w e) P.back (back_step c w e N);
+      back = back_on then w (after_step c w e) P.back (back_step c w e N);
       drawn = P.drawn;
-      talk = subst (λ (ds : List (List ℕ × Reader)). SinceTalk (next_world c w e).state.network.sent ds) (sym (same_readers (Step.happens c w.state e)))
+      talk = subst (λ (ds : List (List ℕ × Reader)). SinceTalk (after_step c w e).state.network.sent ds) (sym (same_readers (Calm.moves c w.state e)))
           (record { sent = λ m i. elim (new_or_old c w.state e m t.same i) [ inl o ↦ P.talk.sent m o | inr n ↦ t.talk.sent m n ]; there = t.talk.there; readers = t.talk.readers });
     }

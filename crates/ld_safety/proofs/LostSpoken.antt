@@ -1,7 +1,6 @@
 -- A node that told a reader under a generation that it is lost: a record of that generation that was cut short makes it lost for nothing that it wasn't lost for before the record.
 use Rattle.std.proofs.Common.{◌≡◌, ◌∙◌, ◌≤◌, ℕ, inl, inr, refl, ap, sym, subst, true, false, List, [], ◌∷◌, Option, Some, None, arith}
 use Rattle.ld_config.specs.declared.config.Config.{Config}
-use Rattle.ld_schedule.specs.declared.event.Event.{Event}
 use Rattle.ld_schedule.specs.declared.event.Picture.{Picture}
 use Rattle.ld_msg.specs.declared.msg.Msg.{Msg}
 use Rattle.ld_msg.specs.declared.msg.Who.TheVariants as whos
@@ -17,7 +16,7 @@ use Rattle.ld_machine.specs.Disk.{Node, Cut, Fate, Made, FailsAt, CrashesAt, fat
 use Rattle.ld_machine.specs.State.{State, finish, node_at, posted}
 use Rattle.ld_machine.specs.Facts.{Happened}
 use Rattle.ld_machine.specs.World.{World, In, Sent}
-use Rattle.ld_machine.specs.Run.{next_world}
+use Rattle.ld_machine.specs.Run.{after_step}
 use Rattle.ld_machine.specs.Step as Step
 use Rattle.ld_safety.proofs.Lists.{Some_inj, not_none, only, cond_both}
 use Rattle.ld_safety.proofs.Traces.{Keeps, both_kept, beside_kept}
@@ -31,6 +30,7 @@ use Rattle.ld_safety.proofs.LostTalk.{TalkKeeps, talked, new_or_old}
 use Rattle.ld_safety.proofs.LostRounds.{ask_answer, posted_to}
 use Rattle.ld_safety.proofs.LostAlong.{Asked, asked_kept}
 use Rattle.ld_safety.proofs.LostKept.{Standings, standings_kept}
+use Rattle.ld_machine.specs.Calm.{Move}
 
 -- a record of the generation that was cut short makes the node lost for nothing new
 abbrev pub CutOld : Node → ℕ → Type 0
@@ -92,7 +92,7 @@ formatted_old : (x : Node) (r k : Register) (n g : ℕ) → (load x).cut ≡ Non
 unfolding apply
 formatted_old x r k n g c i b = kept_old (load x) (ops.Format (generation_of k n) (epochs_in k.logs)) g c (λ q l e t. absurd (let z = drawn_above r n k i in let v : generation_of k n ≡ g = q in omega arith))
 
-olds_keep : (c : Config) (s : State) (v : Event) → ((n l : ℕ) → Serves c s n l → (node_at s n).cut ≡ None) → NodeKeeps c s v (λ y x. (g : ℕ) → g ≤ generation_of s.register y → CutOld (node_at s y) g → CutOld x g)
+olds_keep : (c : Config) (s : State) (v : Move) → ((n l : ℕ) → Serves c s n l → (node_at s n).cut ≡ None) → NodeKeeps c s v (λ y x. (g : ℕ) → g ≤ generation_of s.register y → CutOld (node_at s y) g → CutOld x g)
 olds_keep c s v U = record {
   all = λ y g b h. h;
   hears = λ n m i t u g b h. released_old (node_at s n) m.log m.body g h;
@@ -115,11 +115,11 @@ SaysOld w m = (k n u g end : ℕ) → m.to ≡ whos.Reader k → m.body ≡ bodi
 abbrev pub Spoken : World → Type 0
 Spoken w = (m : Msg) → Sent w m → SaysOld w m
 
-module _ (c : Config) (hs : List Happened) (w : World) (e : Event) (A : Asked c hs w) (S : Standings c hs w) (P : Spoken w) where
+module _ (c : Config) (hs : List Happened) (w : World) (e : Move) (A : Asked c hs w) (S : Standings c hs w) (P : Spoken w) where
   whole : (n l : ℕ) → Serves c w.state n l → (node_at w.state n).cut ≡ None
   whole n l v = ((S.1 n l).up v.up).0
 
-  old_step : (y g : ℕ) → g ≤ generation_of w.state.register y → CutOld (node_at w.state y) g → CutOld (node_at (next_world c w e).state y) g
+  old_step : (y g : ℕ) → g ≤ generation_of w.state.register y → CutOld (node_at w.state y) g → CutOld (node_at (after_step c w e).state y) g
   unfolding finish
   old_step = dispatch c w.state e (λ d m. (y : ℕ) → (g : ℕ) → g ≤ generation_of w.state.register y → CutOld (node_at w.state y) g → CutOld (node_at d.state y) g) A.0.0.0
       (node_cases c w.state e (λ y x. (g : ℕ) → g ≤ generation_of w.state.register y → CutOld (node_at w.state y) g → CutOld x g) (olds_keep c w.state e whole))
@@ -127,28 +127,28 @@ module _ (c : Config) (hs : List Happened) (w : World) (e : Event) (A : Asked c 
   not_reader : (n k : ℕ) → whos.Node n ≡ whos.Reader k → ⊥
   not_reader n k h = cc
 
-  posted_old : (r l : ℕ) (bs : List (ℕ × Body)) (m : Msg) → In m (posted (whos.Reader r) l bs) → SaysOld (next_world c w e) m
+  posted_old : (r l : ℕ) (bs : List (ℕ × Body)) (m : Msg) → In m (posted (whos.Reader r) l bs) → SaysOld (after_step c w e) m
   posted_old r l bs m i k n u g end t b = let p = posted_to (whos.Reader r) l bs m i in absurd (not_reader p.0.0 k (sym (ap (λ (y : Msg). y.to) p.2) ∙ t))
 
   -- a node that answers is up, and has no record that was cut short
-  answer_old : (n : ℕ) (m : Msg) (x : Body) → In m w.state.network.sent → Serves c w.state n m.log → (Step.node_handles n (node_at w.state n) m).answer ≡ Some x → SaysOld (next_world c w e) (record { from = whos.Node n; to = m.from; log = m.log; body = x })
+  answer_old : (n : ℕ) (m : Msg) (x : Body) → In m w.state.network.sent → Serves c w.state n m.log → (Step.node_handles n (node_at w.state n) m).answer ≡ Some x → SaysOld (after_step c w e) (record { from = whos.Node n; to = m.from; log = m.log; body = x })
   answer_old n m x i v h k number u g end t b =
       let p : Plain = (node_at w.state n).plain in
       let a = (ask_answer n p.generation (log_of p m.log) m.log _ _ m.body x (A.1.1.asks m k i t) h).lost number u g end b in
       old_step n g (let d = A.1.0.0 n p (inl refl) in let z = a.0 in omega arith) (whole_old (node_at w.state n) g (whole n m.log v))
 
-  spoken_talk : TalkKeeps c w.state e (λ ms ds. (m : Msg) → In m ms → SaysOld (next_world c w e) m)
+  spoken_talk : TalkKeeps c w.state e (λ ms ds. (m : Msg) → In m ms → SaysOld (after_step c w e) m)
   spoken_talk = record {
     quiet = λ m i. absurd i;
     elsewhere = λ ms h m i k n u g end t b. absurd (not_reader (h m i).node k (sym (h m i).to ∙ t));
-    answers = λ n m x i t v h z j. subst (SaysOld (next_world c w e)) (sym (only z _ j)) (answer_old n m x i v h);
+    answers = λ n m x i t v h z j. subst (SaysOld (after_step c w e)) (sym (only z _ j)) (answer_old n m x i v h);
     reads = λ name d m i t v. let a = on_answer (looks_at c w.state.register d.log) d (Step.sender_node m.from) m.body in posted_old a.reader.number a.reader.log a.asks;
     polls = λ name d v. posted_old d.number d.log (poll_asks (looks_at c w.state.register d.log) d);
     opens = λ style name l from until o m i. absurd i;
   }
 
-  spoken_step : Spoken (next_world c w e)
-  spoken_step m i = let t = talked c w.state e (λ ms ds. (m : Msg) → In m ms → SaysOld (next_world c w e) m) spoken_talk A.0.0.0 in elim (new_or_old c w.state e m t.same i) [
+  spoken_step : Spoken (after_step c w e)
+  spoken_step m i = let t = talked c w.state e (λ ms ds. (m : Msg) → In m ms → SaysOld (after_step c w e) m) spoken_talk A.0.0.0 in elim (new_or_old c w.state e m t.same i) [
     | inl o ↦ λ k n u g end q b. old_step (Step.sender_node m.from) g (A.1.1.generations m k n u g end o q b) (P m o k n u g end q b)
     | inr o ↦ t.talk m o
   ]

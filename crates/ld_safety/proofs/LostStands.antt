@@ -6,7 +6,6 @@ use Rattle.ld_table.specs.Table.{find}
 use Rattle.ld_table.proofs.Laws.{put_cases, find-put_same}
 use Rattle.ld_ids.specs.declared.set.Spec.{Spec}
 use Rattle.ld_config.specs.declared.config.Config.{Config}
-use Rattle.ld_schedule.specs.declared.event.Event.{Event}
 use Rattle.ld_transcript.specs.declared.line.Line.{Line}
 use Rattle.ld_transcript.specs.declared.line.Line.TheVariants as lines
 use Rattle.ld_msg.specs.declared.msg.Msg.{Msg}
@@ -17,7 +16,7 @@ use Rattle.ld_op.specs.declared.op.Op.TheVariants as ops
 use Rattle.ld_op.specs.Plain.{Plain, log_of, is_lost, apply}
 use Rattle.ld_op.specs.Ticks.{Ticked, Cleans, Rebuilt, Asks, Nothing}
 use Rattle.ld_msg.specs.Register.{Register, Granted, draw, generation_of, no_epochs, epochs_of, epochs_in}
-use Rattle.ld_msg.specs.Sequencer.{called, on_reply, on_retry}
+use Rattle.ld_msg.specs.Sequencer.{called, on_reply}
 use Rattle.ld_machine.specs.Config.{looks_at, has_log}
 use Rattle.ld_machine.specs.Disk.{Node, new_node, keep_op, keep_end, load, load_end, Kept, Written, DiskFailed, Crashed, JournalFull, is_up, is_blank}
 use Rattle.ld_machine.specs.State.{State, Done, finish, node_at, with_node, with_register, with_line}
@@ -28,12 +27,13 @@ use Rattle.ld_safety.proofs.Lists.{not_none, not_both, In-append}
 use Rattle.ld_safety.proofs.Rising.{Rising}
 use Rattle.ld_safety.proofs.Lines.{Group, OfNodes, OfActs, OfItems, group, AllOf, acted_of, items_of}
 use Rattle.ld_safety.proofs.Steps.{is_plain, In_finish, told}
-use Rattle.ld_safety.proofs.Events.{Cases, is_quiet, refreshed, loaded}
+use Rattle.ld_safety.proofs.Events.{retry_call, announced, Cases, is_quiet, refreshed, loaded}
 use Rattle.ld_safety.proofs.RegisterSteps.{draw_granted}
 use Rattle.ld_safety.proofs.HoldSteps.{handled_plain, same_generation}
 use Rattle.ld_safety.proofs.Sends.{written}
 use Rattle.ld_safety.proofs.LostNodes.{drawn_above}
 use Rattle.ld_safety.proofs.LostStanding.{Stands, Still, moves, standing_grows, stays_in, new_stands, op_stands, format_stands, load_stands, load_whole, keep_status, keep_up, not_lost_after, formatted_lost, lines_told}
+use Rattle.ld_machine.specs.Calm.{Move}
 
 -- ---- lines that say nothing of it ----
 other_group : (x : Line) → (group x ≡ OfNodes → ⊥) → moves x ≡ false
@@ -95,7 +95,7 @@ kept_lines_are s t n o x ls JournalFull = refl
 abbrev pub OnlyLogs : Config → Register → Type 0
 OnlyLogs c r = (l : ℕ) → 0 < (epochs_of r l).epoch → has_log c l ≡ true
 
-module _ (c : Config) (hs : List Happened) (s : State) (e : Event) where
+module _ (c : Config) (hs : List Happened) (s : State) (e : Move) where
   abbrev st : ℕ → ℕ → Standing
   st n l = standing n l hs Lost
 
@@ -249,9 +249,9 @@ module _ (c : Config) (hs : List Happened) (s : State) (e : Event) where
 
     pub stands_cases : Cases c s e (λ d m. Result d)
     stands_cases = record {
-      still = λ f i. quietly _ still_none A;
+      still = λ f older i. quietly _ still_none A;
       says = λ x q. quietly _ (still_one x (still_quiet x q)) A;
-      node_hears = λ f n m i t v o. handled f n m (Step.node_handles n (node_at s n) m).op (Step.node_handles n (node_at s n) m).answer v.up refl;
+      node_hears = λ f older n m i t v o. handled f n m (Step.node_handles n (node_at s n) m).op (Step.node_handles n (node_at s n) m).answer v.up refl;
       loads = λ n ls q b o. quietly _ (λ x i. still_quiet x (q x i)) (load_all n);
       draw_fails = λ n b. quietly _ (still_one (lines.NodeRefusedRegister n) refl) (load_all n);
       formats = λ n r g b v i. formatted n r b v i;
@@ -261,15 +261,15 @@ module _ (c : Config) (hs : List Happened) (s : State) (e : Event) where
       faults = λ n f o. quietly _ still_none (put_stands s n (Step.with_fault (node_at s n) f) (λ l. let S = A n l in record { blank = S.blank; lost = S.lost; idle = S.idle; up = S.up }) A);
       sets = λ l r x set h. quietly _ (still_one (lines.Set l r x set) refl) A;
       arms = λ k done o. quietly _ still_none A;
-      hears = λ f name q m i t l v o. quietly _ (still_group OfActs _ (λ h. cc) (acted_of name q (called (looks_at c s.register q.log) s.register (on_reply (looks_at c s.register q.log) q (Step.sender_node m.from) m.body) (on_reply (looks_at c s.register q.log) q (Step.sender_node m.from) m.body).tries).acts)) A;
-      retries = λ name q v o. quietly _ (still_group OfActs _ (λ h. cc) (acted_of name q (called (looks_at c s.register q.log) s.register (on_retry (looks_at c s.register q.log) q) (on_retry (looks_at c s.register q.log) q).tries).acts)) A;
+      hears = λ f older name q m i t l v o. quietly _ (still_group OfActs _ (λ h. cc) (acted_of name q (called (looks_at c s.register q.log) s.register (on_reply (looks_at c s.register q.log) q (Step.sender_node m.from) m.body) (on_reply (looks_at c s.register q.log) q (Step.sender_node m.from) m.body).tries).acts)) A;
+      retries = λ again name q v o. quietly _ (still_group OfActs _ (λ h. cc) (acted_of name q (announced again (retry_call c s q)).acts)) A;
       appends = λ name q p v a i. quietly _ (still_one (lines.Appended name _) refl) A;
       trims = λ name q t v b. quietly _ (still_one (lines.Trimmed name t) refl) A;
       drops = λ name q v o. quietly _ still_none A;
       activates = λ name l r g n i x. quietly _ (still_one (lines.Active name _) refl) A;
       swaps = λ n m l x r q i. quietly _ (still_one x (still_quiet x q)) A;
       activate_fails = λ name l x g q. quietly _ (still_one x (still_quiet x q)) A;
-      answers = λ f name d m i t v o. quietly _ (still_group OfItems _ (λ h. cc) (items_of _ name _ _)) A;
+      answers = λ f older name d m i t v o. quietly _ (still_group OfItems _ (λ h. cc) (items_of _ name _ _)) A;
       polls = λ name d v o. quietly _ still_none A;
       opens = λ style name l from until o x. quietly _ still_none A;
     }

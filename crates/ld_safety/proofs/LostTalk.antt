@@ -1,8 +1,7 @@
 -- What each event sends and which readers it leaves: whoever speaks of messages and readers answers these few cases.
-use Rattle.std.proofs.Common.{◌≡◌, ◌∙◌, ◌⊎◌, ℕ, inl, inr, refl, ap, sym, subst, cond, List, [], ◌∷◌, length, Option, Some, None}
+use Rattle.std.proofs.Common.{false, Bool, ◌≡◌, ◌∙◌, ◌⊎◌, ℕ, inl, inr, refl, ap, sym, subst, cond, List, [], ◌∷◌, length, Option, Some, None}
 use Rattle.ld_table.specs.Named.{put_named}
 use Rattle.ld_config.specs.declared.config.Config.{Config}
-use Rattle.ld_schedule.specs.declared.event.Event.{Event}
 use Rattle.ld_msg.specs.declared.msg.Who.{Who}
 use Rattle.ld_msg.specs.declared.msg.Who.TheVariants as whos
 use Rattle.ld_msg.specs.declared.msg.Msg.{Msg}
@@ -14,14 +13,16 @@ use Rattle.ld_op.specs.Ticks.{Ticked, Cleans, Rebuilt, Asks, Nothing}
 use Rattle.ld_machine.specs.Config.{looks_at}
 use Rattle.ld_msg.specs.Register.{epochs_of, epochs_in, generation_of}
 use Rattle.ld_machine.specs.Disk.{Node, Kept, Written, keep_end}
-use Rattle.ld_msg.specs.Sequencer.{Sequencer, Acts, on_reply, on_retry}
+use Rattle.ld_msg.specs.Sequencer.{Called, Sequencer}
 use Rattle.ld_msg.specs.Reader.{Reader, opened, polled, on_answer, poll_asks}
 use Rattle.ld_machine.specs.State.{State, Done, finish, node_at, with_node, with_register, posted}
 use Rattle.ld_machine.specs.World.{In}
 use Rattle.ld_machine.specs.Step as Step
 use Rattle.ld_safety.proofs.Steps.{sent_by, sent_before}
-use Rattle.ld_safety.proofs.Events.{NamesOnce, Cases, dispatch, Serves, Reading, Opens, refreshed, loaded}
+use Rattle.ld_safety.proofs.Events.{reply_call, retry_call, announced, NamesOnce, Cases, dispatch, Serves, Reading, Opens, refreshed, loaded}
 use Rattle.ld_msg.specs.declared.style.Style.{Style}
+use Rattle.ld_machine.specs.Calm as Calm
+use Rattle.ld_machine.specs.Calm.{Move}
 
 -- a message to a node that isn't from a reader
 pub record Elsewhere (m : Msg) : Type 0 where
@@ -29,7 +30,7 @@ pub record Elsewhere (m : Msg) : Type 0 where
   pub to : m.to ≡ whos.Node node
   pub whose : (r : ℕ) → m.from ≡ whos.Reader r → ⊥
 
-module _ (c : Config) (s : State) (e : Event) (Q : List Msg → List (List ℕ × Reader) → Type 0) where
+module _ (c : Config) (s : State) (e : Move) (Q : List Msg → List (List ℕ × Reader) → Type 0) where
   pub record TalkKeeps : Type 0 where
     pub quiet : Q [] s.readers
     pub elsewhere : (ms : List Msg) → ((m : Msg) → In m ms → Elsewhere m) → Q ms s.readers
@@ -79,14 +80,14 @@ module _ (c : Config) (s : State) (e : Event) (Q : List Msg → List (List ℕ �
     ticked n l (Asks from) = abroad (Step.ticks_as c s n l (Asks from)) refl refl (posted_elsewhere (whos.Node n) l _ (λ r q. cc))
     ticked n l Nothing = record { same = refl; talk = K.quiet }
 
-    acted : (f : List ℕ) (name : List ℕ) (q : Sequencer) (a : Acts) → Talked (Step.acted c (refreshed s f) name q a)
-    acted f name q a = abroad (Step.acted c (refreshed s f) name q a) refl refl (posted_elsewhere (whos.Sequencer q.epoch) q.log _ (λ r z. cc))
+    acted : (again : Bool) (f : List ℕ) (name : List ℕ) (q : Sequencer) (call : Called) → Talked (Step.told (refreshed s f) name q (announced again call))
+    acted again f name q call = abroad (Step.told (refreshed s f) name q (announced again call)) refl refl (posted_elsewhere (whos.Sequencer q.epoch) q.log _ (λ r z. cc))
 
     talk_cases : Cases c s e (λ d m. Talked d)
     talk_cases = record {
-      still = λ f i. quietly _ refl refl refl;
+      still = λ f older i. quietly _ refl refl refl;
       says = λ x q. quietly _ refl refl refl;
-      node_hears = λ f n m i t v o. handled f (Step.releases (node_at s n) m.log m.body) n m (Step.node_handles n (node_at s n) m).op (Step.node_handles n (node_at s n) m).answer (answer_talk n m (Step.node_handles n (node_at s n) m).answer i t v refl);
+      node_hears = λ f older n m i t v o. handled f (Step.releases (node_at s n) m.log m.body) n m (Step.node_handles n (node_at s n) m).op (Step.node_handles n (node_at s n) m).answer (answer_talk n m (Step.node_handles n (node_at s n) m).answer i t v refl);
       loads = λ n ls q b o. quietly _ refl refl refl;
       draw_fails = λ n b. quietly _ refl refl refl;
       formats = λ n r g b v i. record { same = refl; talk = no_messages (keep_end (node_at (with_register (loaded s n) r) n) (ops.Format (generation_of r n) (epochs_in r.logs))) };
@@ -96,28 +97,28 @@ module _ (c : Config) (s : State) (e : Event) (Q : List Msg → List (List ℕ �
       faults = λ n f o. quietly _ refl refl refl;
       sets = λ l r x set h. quietly _ refl refl refl;
       arms = λ k done o. quietly _ refl refl refl;
-      hears = λ f name q m i t l v o. acted f name q (on_reply (looks_at c s.register q.log) q (Step.sender_node m.from) m.body);
-      retries = λ name q v o. acted s.network.fresh name q (on_retry (looks_at c s.register q.log) q);
+      hears = λ f older name q m i t l v o. acted false f name q (reply_call c s q (Step.sender_node m.from) m.body);
+      retries = λ again name q v o. acted again s.network.fresh name q (retry_call c s q);
       appends = λ name q p v a i. abroad _ refl refl (posted_elsewhere (whos.Sequencer q.epoch) q.log _ (λ r z. cc));
       trims = λ name q t v b. abroad _ refl refl (posted_elsewhere (whos.Sequencer q.epoch) q.log _ (λ r z. cc));
       drops = λ name q v o. quietly _ refl refl refl;
       activates = λ name l r g n i x. abroad _ refl refl (posted_elsewhere (whos.Sequencer (epochs_of r l).epoch) l _ (λ r z. cc));
       swaps = λ n m l x r q i. quietly _ refl refl refl;
       activate_fails = λ name l x g q. quietly _ refl refl refl;
-      answers = λ f name d m i t v o. record { same = refl; talk = K.reads name d m i t v };
+      answers = λ f older name d m i t v o. record { same = refl; talk = K.reads name d m i t v };
       polls = λ name d v o. record { same = refl; talk = K.polls name d v };
       opens = λ style name l from until o x. record { same = refl; talk = K.opens style name l from until o };
     }
 
-    pub talked : NamesOnce s → Talked (Step.happens c s e)
+    pub talked : NamesOnce s → Talked (Calm.moves c s e)
     talked N = dispatch c s e (λ d m. Talked d) N talk_cases
 
 -- a message is of before, or is sent in the step
-pub new_or_old : (c : Config) (s : State) (e : Event) (m : Msg) → (Step.happens c s e).state.network.sent ≡ s.network.sent → In m (finish (Step.happens c s e)).state.network.sent → In m s.network.sent ⊎ In m (Step.happens c s e).sends
-new_or_old c s e m q i = elim (sent_by (Step.happens c s e) m i) [ inl a ↦ inl (subst (λ (x : List Msg). In m x) q a) | inr a ↦ inr a ]
+pub new_or_old : (c : Config) (s : State) (e : Move) (m : Msg) → (Calm.moves c s e).state.network.sent ≡ s.network.sent → In m (finish (Calm.moves c s e)).state.network.sent → In m s.network.sent ⊎ In m (Calm.moves c s e).sends
+new_or_old c s e m q i = elim (sent_by (Calm.moves c s e) m i) [ inl a ↦ inl (subst (λ (x : List Msg). In m x) q a) | inr a ↦ inr a ]
 
-pub still_sent : (c : Config) (s : State) (e : Event) (m : Msg) → (Step.happens c s e).state.network.sent ≡ s.network.sent → In m s.network.sent → In m (finish (Step.happens c s e)).state.network.sent
-still_sent c s e m q i = sent_before (Step.happens c s e) m (subst (λ (x : List Msg). In m x) (sym q) i)
+pub still_sent : (c : Config) (s : State) (e : Move) (m : Msg) → (Calm.moves c s e).state.network.sent ≡ s.network.sent → In m s.network.sent → In m (finish (Calm.moves c s e)).state.network.sent
+still_sent c s e m q i = sent_before (Calm.moves c s e) m (subst (λ (x : List Msg). In m x) (sym q) i)
 
 pub same_readers : (d : Done) → (finish d).state.readers ≡ d.state.readers
 unfolding finish

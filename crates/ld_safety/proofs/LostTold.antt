@@ -3,7 +3,6 @@ use Rattle.std.proofs.Common.{◌≡◌, ◌<◌, ℕ, inl, inr, refl, ap, sym, 
 use Rattle.std.proofs.lemmas.Bool.{and_parts, and_from, eqb-true}
 use Rattle.ld_lsn.specs.Number.{epoch_of, esn_of}
 use Rattle.ld_config.specs.declared.config.Config.{Config}
-use Rattle.ld_schedule.specs.declared.event.Event.{Event}
 use Rattle.ld_msg.specs.declared.msg.Msg.{Msg}
 use Rattle.ld_msg.specs.declared.msg.Who.{Who}
 use Rattle.ld_msg.specs.declared.msg.Who.TheVariants as whos
@@ -17,7 +16,7 @@ use Rattle.ld_op.specs.Handles.{handled_by}
 use Rattle.ld_op.specs.Ticks.{on_page}
 use Rattle.ld_machine.specs.State.{node_at, posted}
 use Rattle.ld_machine.specs.World.{World, In, Unserved, is_node, is_sequencer, says_stored, says_settled, told_by, has_told}
-use Rattle.ld_machine.specs.Run.{next_world}
+use Rattle.ld_machine.specs.Run.{after_step}
 use Rattle.ld_machine.specs.Step as Step
 use Rattle.ld_safety.proofs.Lists.{Some_inj, only, any_in, any_from, not_both}
 use Rattle.ld_safety.proofs.NodeSteps.{Served, store_decided, ask_decided, read_answered}
@@ -26,6 +25,7 @@ use Rattle.ld_safety.proofs.LostTalk.{TalkKeeps, talked, new_or_old, still_sent}
 use Rattle.ld_safety.proofs.LostRounds.{posted_to}
 use Rattle.ld_safety.proofs.LostUnserved.{AllUnserved}
 use Rattle.ld_safety.proofs.Withheld.{one_kind}
+use Rattle.ld_machine.specs.Calm.{Move}
 
 -- the node has told that it has the copy of the number that counts where its epoch is closed so: it settled the number for the closing plan, or it stored the append where that was known good
 abbrev pub told_copied : World → ℕ → ℕ → Summary → ℕ → Bool
@@ -94,7 +94,7 @@ told_parts : (s l y b : ℕ) (m : Msg) → told_by (says_settled s) l y b m ≡ 
 told_parts s l y b m h = let p = and_parts ((m.log == l) && says_settled s m.body) (is_node y m.from && is_sequencer b m.to) h in let q = and_parts (m.log == l) (says_settled s m.body) p.0 in let r = and_parts (is_node y m.from) (is_sequencer b m.to) p.1 in
     record { log = eqb-true m.log l q.0; says = q.1; from = who_node y m.from r.0; to = r.1 }
 
-module _ (c : Config) (w : World) (e : Event) (up : (n l : ℕ) → Serves c w.state n l → 0 < (node_at w.state n).plain.generation) where
+module _ (c : Config) (w : World) (e : Move) (up : (n l : ℕ) → Serves c w.state n l → 0 < (node_at w.state n).plain.generation) where
   abbrev NoneTold : List Msg → Type 0
   NoneTold ms = (y l s b : ℕ) → AllUnserved (node_at w.state y) l (epoch_of s) → (m : Msg) → In m ms → told_by (says_settled s) l y b m ≡ true → ⊥
 
@@ -124,24 +124,24 @@ module _ (c : Config) (w : World) (e : Event) (up : (n l : ℕ) → Serves c w.s
   }
 
   -- who tells it after the step told it before
-  told_before : NamesOnce w.state → (p : Body → Bool) (y l s b : ℕ) → ((x : Body) → p x ≡ true → says_settled s x ≡ true) → AllUnserved (node_at w.state y) l (epoch_of s) → has_told (next_world c w e) p l b y ≡ true → has_told w p l b y ≡ true
-  told_before N p y l s b k u h = let t = talked c w.state e (λ ms ds. NoneTold ms) none_talk N in let x = any_in (told_by p l y b) (next_world c w e).state.network.sent h in elim (new_or_old c w.state e x.0 t.same x.1) [
+  told_before : NamesOnce w.state → (p : Body → Bool) (y l s b : ℕ) → ((x : Body) → p x ≡ true → says_settled s x ≡ true) → AllUnserved (node_at w.state y) l (epoch_of s) → has_told (after_step c w e) p l b y ≡ true → has_told w p l b y ≡ true
+  told_before N p y l s b k u h = let t = talked c w.state e (λ ms ds. NoneTold ms) none_talk N in let x = any_in (told_by p l y b) (after_step c w e).state.network.sent h in elim (new_or_old c w.state e x.0 t.same x.1) [
     | inl o ↦ any_from (told_by p l y b) x.0 w.state.network.sent o x.2
     | inr n ↦ absurd (t.talk y l s b u x.0 n (let v = and_parts ((x.0.log == l) && p x.0.body) (is_node y x.0.from && is_sequencer b x.0.to) x.2 in let z = and_parts (x.0.log == l) (p x.0.body) v.0 in and_from _ _ (and_from _ _ z.0 (k x.0.body z.1)) v.1))
   ]
 
   -- who told it before tells it after
-  told_after : NamesOnce w.state → (p : Body → Bool) (y l b : ℕ) → has_told w p l b y ≡ true → has_told (next_world c w e) p l b y ≡ true
-  told_after N p y l b h = let t = talked c w.state e (λ ms ds. NoneTold ms) none_talk N in let x = any_in (told_by p l y b) w.state.network.sent h in any_from (told_by p l y b) x.0 (next_world c w e).state.network.sent (still_sent c w.state e x.0 t.same x.1) x.2
+  told_after : NamesOnce w.state → (p : Body → Bool) (y l b : ℕ) → has_told w p l b y ≡ true → has_told (after_step c w e) p l b y ≡ true
+  told_after N p y l b h = let t = talked c w.state e (λ ms ds. NoneTold ms) none_talk N in let x = any_in (told_by p l y b) w.state.network.sent h in any_from (told_by p l y b) x.0 (after_step c w e).state.network.sent (still_sent c w.state e x.0 t.same x.1) x.2
 
-  pub copied_after : NamesOnce w.state → (y l s : ℕ) (z : Summary) → told_copied w l s z y ≡ true → told_copied (next_world c w e) l s z y ≡ true
+  pub copied_after : NamesOnce w.state → (y l s : ℕ) (z : Summary) → told_copied w l s z y ≡ true → told_copied (after_step c w e) l s z y ≡ true
   copied_after N y l s z = by_good (nat_le (esn_of s) z.lng) where
-    by_good : (t : Bool) → (if t then has_told w (says_stored s) l (epoch_of s) y else has_told w (says_settled s) l z.ballot y) ≡ true → (if t then has_told (next_world c w e) (says_stored s) l (epoch_of s) y else has_told (next_world c w e) (says_settled s) l z.ballot y) ≡ true
+    by_good : (t : Bool) → (if t then has_told w (says_stored s) l (epoch_of s) y else has_told w (says_settled s) l z.ballot y) ≡ true → (if t then has_told (after_step c w e) (says_stored s) l (epoch_of s) y else has_told (after_step c w e) (says_settled s) l z.ballot y) ≡ true
     by_good true h = told_after N (says_stored s) y l (epoch_of s) h
     by_good false h = told_after N (says_settled s) y l z.ballot h
 
-  pub copied_before : NamesOnce w.state → (y l s : ℕ) (z : Summary) → AllUnserved (node_at w.state y) l (epoch_of s) → told_copied (next_world c w e) l s z y ≡ true → told_copied w l s z y ≡ true
+  pub copied_before : NamesOnce w.state → (y l s : ℕ) (z : Summary) → AllUnserved (node_at w.state y) l (epoch_of s) → told_copied (after_step c w e) l s z y ≡ true → told_copied w l s z y ≡ true
   copied_before N y l s z u = by_good (nat_le (esn_of s) z.lng) where
-    by_good : (t : Bool) → (if t then has_told (next_world c w e) (says_stored s) l (epoch_of s) y else has_told (next_world c w e) (says_settled s) l z.ballot y) ≡ true → (if t then has_told w (says_stored s) l (epoch_of s) y else has_told w (says_settled s) l z.ballot y) ≡ true
+    by_good : (t : Bool) → (if t then has_told (after_step c w e) (says_stored s) l (epoch_of s) y else has_told (after_step c w e) (says_settled s) l z.ballot y) ≡ true → (if t then has_told w (says_stored s) l (epoch_of s) y else has_told w (says_settled s) l z.ballot y) ≡ true
     by_good true h = told_before N (says_stored s) y l s (epoch_of s) (stored_too s) u h
     by_good false h = told_before N (says_settled s) y l s z.ballot (λ x q. q) u h

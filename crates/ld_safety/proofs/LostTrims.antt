@@ -5,7 +5,6 @@ use Rattle.ld_table.specs.Table.{find}
 use Rattle.ld_table.proofs.Laws.{put_cases}
 use Rattle.ld_lsn.specs.Number.{epoch_of}
 use Rattle.ld_config.specs.declared.config.Config.{Config}
-use Rattle.ld_schedule.specs.declared.event.Event.{Event}
 use Rattle.ld_msg.specs.declared.msg.Msg.{Msg}
 use Rattle.ld_msg.specs.declared.msg.Body.TheVariants as bodies
 use Rattle.ld_op.specs.declared.op.Op.{Op}
@@ -16,7 +15,7 @@ use Rattle.ld_machine.specs.Disk.{Node, keep_op, load}
 use Rattle.ld_machine.specs.State.{State, finish, node_at}
 use Rattle.ld_machine.specs.Facts.{Happened}
 use Rattle.ld_machine.specs.World.{World, In, MayHold, from_node}
-use Rattle.ld_machine.specs.Run.{next_world}
+use Rattle.ld_machine.specs.Run.{after_step}
 use Rattle.ld_machine.specs.Step as Step
 use Rattle.ld_safety.proofs.Lists.{not_none}
 use Rattle.ld_safety.proofs.Traces.{Keeps, beside_kept}
@@ -32,6 +31,8 @@ use Rattle.ld_safety.proofs.GivenSteps.{BaseGiven}
 use Rattle.ld_safety.proofs.Registers.{Reached}
 use Rattle.ld_safety.proofs.Along.{Along}
 use Rattle.ld_safety.proofs.AlongSteps.{along_kept, sends_now, same_sent}
+use Rattle.ld_machine.specs.Calm as Calm
+use Rattle.ld_machine.specs.Calm.{Move}
 
 abbrev pub Trimmed : Plain → ℕ → ℕ → ℕ → Type 0
 Trimmed p l e t = Fallen p l e ⊎ (t ≤ (log_of p l).trim)
@@ -71,7 +72,7 @@ format_trimmed x r k n l e t d a b h p q = elim (kept_from (load x) (ops.Format 
   | inr z ↦ subst (λ y. Trimmed y l e t) (sym z) (inl (inr (lost_fallen (apply (load x).plain (ops.Format (generation_of k n) (epochs_in k.logs))) l e (format_lost k (generation_of k n) l e a (let u = ap (λ m. (unwrap_or (find l m) no_epochs).epoch) (draw_granted r n k d).0 in omega arith)))))
 ]
 
-trims_keep : (c : Config) (s : State) (v : Event) → NodeKeeps c s v (λ y x. (l e t : ℕ) → 0 < e → e ≤ (epochs_of s.register l).epoch → AllTrimmed (node_at s y) l e t → AllTrimmed x l e t)
+trims_keep : (c : Config) (s : State) (v : Move) → NodeKeeps c s v (λ y x. (l e t : ℕ) → 0 < e → e ≤ (epochs_of s.register l).epoch → AllTrimmed (node_at s y) l e t → AllTrimmed x l e t)
 trims_keep c s v = record {
   all = λ y l e t a b h. h;
   hears = λ n m i z u l e t a b h p q. h p (released_from (node_at s n) m.log m.body p q);
@@ -85,7 +86,7 @@ trims_keep c s v = record {
   faults = λ n f l e t a b h. h;
 }
 
-trimmed_step : (c : Config) (w : World) (v : Event) → NamesOnce w.state → (y l e t : ℕ) → 0 < e → e ≤ (epochs_of w.state.register l).epoch → AllTrimmed (node_at w.state y) l e t → AllTrimmed (node_at (next_world c w v).state y) l e t
+trimmed_step : (c : Config) (w : World) (v : Move) → NamesOnce w.state → (y l e t : ℕ) → 0 < e → e ≤ (epochs_of w.state.register l).epoch → AllTrimmed (node_at w.state y) l e t → AllTrimmed (node_at (after_step c w v).state y) l e t
 unfolding finish
 trimmed_step c w v N = dispatch c w.state v (λ d m. (y : ℕ) → (l e t : ℕ) → 0 < e → e ≤ (epochs_of w.state.register l).epoch → AllTrimmed (node_at w.state y) l e t → AllTrimmed (node_at d.state y) l e t) N
     (node_cases c w.state v (λ y x. (l e t : ℕ) → 0 < e → e ≤ (epochs_of w.state.register l).epoch → AllTrimmed (node_at w.state y) l e t → AllTrimmed x l e t) (trims_keep c w.state v))
@@ -94,16 +95,16 @@ trimmed_step c w v N = dispatch c w.state v (λ d m. (y : ℕ) → (l e t : ℕ)
 abbrev pub TrimsTold : World → Type 0
 TrimsTold w = (l y b s t : ℕ) → In (from_node l y b (bodies.TrimmedHere s t)) w.state.network.sent → (p : Plain) → MayHold (node_at w.state y) p → Trimmed p l (epoch_of s) t
 
-told_step : (c : Config) (hs : List Happened) (w : World) (v : Event) → BaseGiven c hs w × Along c hs w → TrimsTold w → TrimsTold (next_world c w v)
+told_step : (c : Config) (hs : List Happened) (w : World) (v : Move) → BaseGiven c hs w × Along c hs w → TrimsTold w → TrimsTold (after_step c w v)
 unfolding finish
-told_step c hs w v B T l y b s t i p q = elim (sent_by (Step.happens c w.state v) _ i) [
+told_step c hs w v B T l y b s t i p q = elim (sent_by (Calm.moves c w.state v) _ i) [
   | inl a ↦
       let j = subst (λ (z : List Msg). In (from_node l y b (bodies.TrimmedHere s t)) z) (same_sent c hs w v B.0.0 B.0.1 B.1) a in
       let o : Reached w.state.register l (epoch_of s) = (B.1.said.sent _ j).0.1 in
       trimmed_step c w v B.0.0.0.0 y l (epoch_of s) t o.0 o.1 (T l y b s t j) p q
   | inr a ↦ let z = (sends_now c hs w v B.0.0 B.0.1 B.1).trimmed l y s t b a in inr (subst (λ (k : Plain). t ≤ (log_of k l).trim) (sym (one_state z.0.whole q)) z.1)
 ] where
-  one_state : (node_at (Step.happens c w.state v).state y).cut ≡ None → MayHold (node_at (Step.happens c w.state v).state y) p → p ≡ (node_at (Step.happens c w.state v).state y).plain
+  one_state : (node_at (Calm.moves c w.state v).state y).cut ≡ None → MayHold (node_at (Calm.moves c w.state v).state y) p → p ≡ (node_at (Calm.moves c w.state v).state y).plain
   one_state n (inl k) = k
   one_state n (inr k) = absurd (let z : None ≡ Some k.0 = sym n ∙ k.1 in not_none z)
 

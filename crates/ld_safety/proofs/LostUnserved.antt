@@ -7,7 +7,6 @@ use Rattle.std.proofs.lemmas.Bool.{and_parts, and_from, eqb-true, lt-ltb, le-leb
 use Rattle.ld_table.specs.Table.{find, put}
 use Rattle.ld_table.proofs.Laws.{put_cases, tied}
 use Rattle.ld_config.specs.declared.config.Config.{Config}
-use Rattle.ld_schedule.specs.declared.event.Event.{Event}
 use Rattle.ld_msg.specs.declared.msg.Entry.{Entry}
 use Rattle.ld_msg.specs.declared.msg.Summary.{Summary}
 use Rattle.ld_msg.specs.declared.msg.Body.{Body}
@@ -22,7 +21,7 @@ use Rattle.ld_msg.specs.Register.{Register, Epochs, no_epochs, epochs_of, epochs
 use Rattle.ld_machine.specs.Disk.{Node, new_node, keep_op, load}
 use Rattle.ld_machine.specs.State.{State, finish, node_at}
 use Rattle.ld_machine.specs.World.{World, MayHold, Unserved}
-use Rattle.ld_machine.specs.Run.{next_world}
+use Rattle.ld_machine.specs.Run.{after_step}
 use Rattle.ld_machine.specs.Step as Step
 use Rattle.ld_safety.proofs.Lists.{Some_inj, not_none, not_both, cond_both}
 use Rattle.ld_safety.proofs.Events.{NamesOnce, dispatch}
@@ -30,6 +29,7 @@ use Rattle.ld_safety.proofs.RegisterSteps.{draw_granted}
 use Rattle.ld_safety.proofs.HoldSteps.{is_format, same_generation, handled_plain}
 use Rattle.ld_safety.proofs.NodeCases.{NodeKeeps, node_cases}
 use Rattle.ld_safety.proofs.LostNodes.{kept_from, loaded_from, released_from}
+use Rattle.ld_machine.specs.Calm.{Move}
 
 -- ---- ops of messages refill no more than entries ----
 abbrev pub is_refilled : Op → Bool
@@ -188,7 +188,7 @@ blank_unserved : (l e : ℕ) → AllUnserved new_node l e
 blank_unserved l e p (inl q) = inl (ap (λ (z : Plain). z.generation) q)
 blank_unserved l e p (inr q) = absurd (not_none q.1)
 
-unserved_keeps : (c : Config) (s : State) (v : Event) → NodeKeeps c s v (λ y x. (l e : ℕ) → 0 < e → e ≤ (epochs_of s.register l).epoch → AllUnserved (node_at s y) l e → AllUnserved x l e)
+unserved_keeps : (c : Config) (s : State) (v : Move) → NodeKeeps c s v (λ y x. (l e : ℕ) → 0 < e → e ≤ (epochs_of s.register l).epoch → AllUnserved (node_at s y) l e → AllUnserved x l e)
 unserved_keeps c s v = record {
   all = λ y l e a b h. h;
   hears = λ n m i t u l e a b h p q. h p (released_from (node_at s n) m.log m.body p q);
@@ -204,7 +204,7 @@ unserved_keeps c s v = record {
   same_log : {j k : ℕ} → ops.Refilled j ≡ ops.Refilled k → j ≡ k
   same_log z = cc
 
-pub unserved_step : (c : Config) (w : World) (v : Event) → NamesOnce w.state → (y l e : ℕ) → 0 < e → e ≤ (epochs_of w.state.register l).epoch → AllUnserved (node_at w.state y) l e → AllUnserved (node_at (next_world c w v).state y) l e
+pub unserved_step : (c : Config) (w : World) (v : Move) → NamesOnce w.state → (y l e : ℕ) → 0 < e → e ≤ (epochs_of w.state.register l).epoch → AllUnserved (node_at w.state y) l e → AllUnserved (node_at (after_step c w v).state y) l e
 unfolding finish
 unserved_step c w v N y l e a b h = dispatch c w.state v (λ d m. (y : ℕ) → (l e : ℕ) → 0 < e → e ≤ (epochs_of w.state.register l).epoch → AllUnserved (node_at w.state y) l e → AllUnserved (node_at d.state y) l e) N
     (node_cases c w.state v (λ y x. (l e : ℕ) → 0 < e → e ≤ (epochs_of w.state.register l).epoch → AllUnserved (node_at w.state y) l e → AllUnserved x l e) (unserved_keeps c w.state v)) y l e a b h

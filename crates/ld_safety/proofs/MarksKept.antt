@@ -4,7 +4,6 @@ use Rattle.std.proofs.lemmas.Bool.{and_parts, leb-true}
 use Rattle.ld_table.specs.Table.{find}
 use Rattle.ld_lsn.specs.Number.{epoch_of}
 use Rattle.ld_config.specs.declared.config.Config.{Config}
-use Rattle.ld_schedule.specs.declared.event.Event.{Event}
 use Rattle.ld_msg.specs.declared.msg.Entry.{Entry}
 use Rattle.ld_msg.specs.declared.msg.Summary.{Summary}
 use Rattle.ld_msg.specs.declared.msg.What.{What}
@@ -34,6 +33,7 @@ use Rattle.ld_safety.proofs.LostFullKept.{FullNode}
 use Rattle.ld_safety.proofs.LostUnserved.{FullClean, handled_other, not_refilled, rebuilt_full}
 use Rattle.ld_safety.proofs.InSet.{StoreLng}
 use Rattle.ld_safety.proofs.Marks.{Marked, OpMarks, OfSet, HoleClosed, op_marked, format_marked, blank_marked}
+use Rattle.ld_machine.specs.Calm.{Move}
 
 -- what a message makes a node accept or refill
 record Handled (p : Plain) (l ballot : ℕ) (b : Body) (o : Op) : Type 0 where
@@ -124,7 +124,7 @@ missing_low g k h = let p = and_parts ((nat_lt g.trim k && nat_le (epoch_of k) g
 abbrev pub MarkedNode : Config → List Made → State → ℕ → Node → Type 0
 MarkedNode c made s y x = (p : Plain) → MayHold x p → Marked c made s.register s.network.sent y p
 
-module _ (c : Config) (made : List Made) (s : State) (v : Event) (M : (y : ℕ) → MarkedNode c made s y (node_at s y)) (F : (y : ℕ) → FullNode (node_at s y)) (ups : (y : ℕ) → UpFine (node_at s y))
+module _ (c : Config) (made : List Made) (s : State) (v : Move) (M : (y : ℕ) → MarkedNode c made s y (node_at s y)) (F : (y : ℕ) → FullNode (node_at s y)) (ups : (y : ℕ) → UpFine (node_at s y))
     (seals : (y l b from upto t lng : ℕ) (es : List Entry) → In (from_node l y b (bodies.DigestPage from upto t lng es)) s.network.sent → Gone (node_at s y).plain l (epoch_of from) ⊎ (b ≤ (log_of (node_at s y).plain l).sealed))
     (stores : (m : Msg) → In m s.network.sent → (y n lng : ℕ) (x : What) → m.to ≡ whos.Node y → m.body ≡ bodies.Store n lng x → 0 < (node_at s y).plain.generation → Served (log_of (node_at s y).plain m.log) (epoch_of n) → OfSet c made s.register s.network.sent y m.log n × StoreLng made m.log (ballot_of m.from) n lng)
     (pages : (m : Msg) → In m s.network.sent → (n round from upto : ℕ) (es : List Entry) → m.to ≡ whos.Node n → m.body ≡ bodies.ReadPage round from upto true es → (x : Entry) → In x es → HoleClosed c made s.register s.network.sent m.log x) where

@@ -8,7 +8,6 @@ use Rattle.ld_machine.specs.Disk.{Node}
 use Rattle.ld_msg.specs.Sequencer.{Sequencer}
 use Rattle.ld_msg.specs.Reader.{Reader}
 use Rattle.ld_machine.specs.Step as Step
-use Rattle.ld_schedule.specs.declared.event.Event.{Event}
 use Rattle.ld_config.specs.declared.config.Config.{Config}
 use Rattle.ld_machine.specs.State.{State, finish, node_at, with_node, with_sequencer, with_reader}
 use Rattle.ld_machine.specs.Facts.{Happened}
@@ -17,13 +16,15 @@ use Rattle.ld_safety.proofs.Names.{Once-put}
 use Rattle.ld_safety.proofs.Traces.{Keeps}
 use Rattle.ld_safety.proofs.Events.{NamesOnce, refreshed, Cases, dispatch}
 use Rattle.ld_safety.proofs.Steps.{told, became, step_by}
+use Rattle.ld_machine.specs.Calm as Calm
+use Rattle.ld_machine.specs.Calm.{Move}
 
-module _ (c : Config) (s : State) (e : Event) (N : NamesOnce s) where
+module _ (c : Config) (s : State) (e : Move) (N : NamesOnce s) where
   kept_cases : Cases c s e (λ d m. NamesOnce d.state)
   kept_cases = record {
-    still = λ f i. N;
+    still = λ f older i. N;
     says = λ x q. N;
-    node_hears = λ f n m i t v o. handled f (Step.releases (node_at s n) m.log m.body) n m (Step.node_handles n (node_at s n) m).op (Step.node_handles n (node_at s n) m).answer;
+    node_hears = λ f older n m i t v o. handled f (Step.releases (node_at s n) m.log m.body) n m (Step.node_handles n (node_at s n) m).op (Step.node_handles n (node_at s n) m).answer;
     loads = λ n ls q b o. N;
     draw_fails = λ n b. N;
     formats = λ n r g b w i. N;
@@ -33,15 +34,15 @@ module _ (c : Config) (s : State) (e : Event) (N : NamesOnce s) where
     faults = λ n f o. N;
     sets = λ l r x set h. N;
     arms = λ k done o. N;
-    hears = λ f name q m i t l v o. with_sequencer_once name _;
-    retries = λ name q v o. with_sequencer_once name _;
+    hears = λ f older name q m i t l v o. with_sequencer_once name _;
+    retries = λ again name q v o. with_sequencer_once name _;
     appends = λ name q p v a i. with_sequencer_once name _;
     trims = λ name q t v b. N;
     drops = λ name q v o. with_sequencer_once name _;
     activates = λ name l r g n i x. with_sequencer_once name _;
     swaps = λ n m l x r q i. N;
     activate_fails = λ name l x g q. N;
-    answers = λ f name d m i t v o. with_reader_once name _;
+    answers = λ f older name d m i t v o. with_reader_once name _;
     polls = λ name d v o. with_reader_once name _;
     opens = λ style name l from until o x. with_reader_once name _;
   } where
@@ -61,13 +62,13 @@ module _ (c : Config) (s : State) (e : Event) (N : NamesOnce s) where
     ticked n l (Asks from) = N
     ticked n l Nothing = N
 
-  pub names_step : NamesOnce (finish (Step.happens c s e)).state
+  pub names_step : NamesOnce (finish (Calm.moves c s e)).state
   unfolding finish
   names_step = dispatch c s e (λ d m. NamesOnce d.state) N kept_cases
 
 -- what is kept beside them
 pub with_names : (c : Config) (P : List Happened → World → Type 0) → P [] (begin c)
-    → ((hs : List Happened) (w : World) (e : Event) → NamesOnce w.state → P hs w → Cases c w.state e (λ d m. P (hs ++ told w.state.register e d ∷ []) (became w e d m)))
+    → ((hs : List Happened) (w : World) (e : Move) → NamesOnce w.state → P hs w → Cases c w.state e (λ d m. P (hs ++ told w.state.register e d ∷ []) (became w e d m)))
     → Keeps c (λ hs w. NamesOnce w.state × P hs w)
 with_names c P b k = record {
   begins = ((tt, tt), b);

@@ -3,7 +3,6 @@ use Rattle.std.proofs.Common.{◌≡◌, ℕ, inl, inr, refl, ap, sym, subst, tr
 use Rattle.std.specs.Option.{unwrap_or}
 use Rattle.ld_table.proofs.Laws.{put_cases, find-put_same}
 use Rattle.ld_config.specs.declared.config.Config.{Config}
-use Rattle.ld_schedule.specs.declared.event.Event.{Event}
 use Rattle.ld_msg.specs.declared.msg.Who.TheVariants as whos
 use Rattle.ld_msg.specs.declared.msg.Summary.{Summary}
 use Rattle.ld_msg.specs.declared.msg.Msg.{Msg}
@@ -18,8 +17,9 @@ use Rattle.ld_machine.specs.State.{State, node_at, with_node, with_register}
 use Rattle.ld_machine.specs.World.{In}
 use Rattle.ld_machine.specs.Step as Step
 use Rattle.ld_safety.proofs.Events.{Cases, Serves, refreshed, loaded}
+use Rattle.ld_machine.specs.Calm.{Move}
 
-module _ (c : Config) (s : State) (e : Event) (P : ℕ → Node → Type 0) where
+module _ (c : Config) (s : State) (e : Move) (P : ℕ → Node → Type 0) where
   pub record NodeKeeps : Type 0 where
     pub all : (y : ℕ) → P y (node_at s y)
     pub hears : (n : ℕ) (m : Msg) → In m s.network.sent → m.to ≡ whos.Node n → Serves c s n m.log → P n (Step.releases (node_at s n) m.log m.body)
@@ -63,9 +63,9 @@ module _ (c : Config) (s : State) (e : Event) (P : ℕ → Node → Type 0) wher
 
     pub node_cases : Cases c s e (λ d m. (y : ℕ) → P y (node_at d.state y))
     node_cases = record {
-      still = λ f i. K.all;
+      still = λ f older i. K.all;
       says = λ x q. K.all;
-      node_hears = λ f n m i t v o. handled f n m (Step.node_handles n (node_at s n) m).op (Step.node_handles n (node_at s n) m).answer (K.hears n m i t v) (λ p q. K.keeps n m p i t v q);
+      node_hears = λ f older n m i t v o. handled f n m (Step.node_handles n (node_at s n) m).op (Step.node_handles n (node_at s n) m).answer (K.hears n m i t v) (λ p q. K.keeps n m p i t v q);
       loads = λ n ls q b o. put_node s n (load (node_at s n)) (K.loads n) K.all;
       draw_fails = λ n b. put_node s n (load (node_at s n)) (K.loads n) K.all;
       formats = λ n r g b v i. formatted n r (K.formats n r b v i);
@@ -75,15 +75,15 @@ module _ (c : Config) (s : State) (e : Event) (P : ℕ → Node → Type 0) wher
       faults = λ n f o. put_node s n (Step.with_fault (node_at s n) f) (K.faults n f) K.all;
       sets = λ l r x set h. K.all;
       arms = λ k done o. K.all;
-      hears = λ f name q m i t l v o. K.all;
-      retries = λ name q v o. K.all;
+      hears = λ f older name q m i t l v o. K.all;
+      retries = λ again name q v o. K.all;
       appends = λ name q p v a i. K.all;
       trims = λ name q t v b. K.all;
       drops = λ name q v o. K.all;
       activates = λ name l r g n i x. K.all;
       swaps = λ n m l x r q i. K.all;
       activate_fails = λ name l x g q. K.all;
-      answers = λ f name d m i t v o. K.all;
+      answers = λ f older name d m i t v o. K.all;
       polls = λ name d v o. K.all;
       opens = λ style name l from until o x. K.all;
     }

@@ -24,7 +24,7 @@ use Rattle.ld_ids.specs.declared.set.Spec.{Spec}
 use Rattle.ld_msg.specs.declared.msg.Summary.{Summary}
 use Rattle.ld_msg.specs.Register.{swap, swapped_epochs, Register, View, Changed, Epochs, epoch_limit, no_epochs, next_epoch, closed_epochs, with_epochs, close, epochs_of, generation_of, epochs_in, activate, draw, lce_of}
 use Rattle.ld_machine.specs.Disk.{Node, keep_end}
-use Rattle.ld_msg.specs.Sequencer.{Sequencer, Acts, Appending, TooLong, EpochFull, Numbered, or_preempted, payload_limit, appending, appended, fresh_append, next_esn, activated, on_reply, on_retry, called, Attempt}
+use Rattle.ld_msg.specs.Sequencer.{Called, Sequencer, Acts, Appending, TooLong, EpochFull, Numbered, or_preempted, payload_limit, appending, appended, fresh_append, next_esn, activated, on_reply, on_retry, called, Attempt}
 use Rattle.ld_machine.specs.State.{State, Done, finish, node_at, with_node, with_register}
 use Rattle.ld_machine.specs.Facts.{Happened, Writes, Appends, sequencer_log, log_activated, activates_name, AsksToAppend}
 use Rattle.ld_machine.specs.Safe.{NumbersRise, NumbersDiffer}
@@ -34,7 +34,7 @@ use Rattle.ld_machine.specs.Step as Step
 use Rattle.ld_safety.proofs.Lists.{branch, first_grows, or_else_some, or_else_none, or_else_new, Some_inj, not_none, cond_both, slice_get_below, any_in, any_from}
 use Rattle.ld_safety.proofs.Names.{named_cases}
 use Rattle.ld_safety.proofs.Traces.{Keeps, at_end}
-use Rattle.ld_safety.proofs.Events.{NamesOnce, Cases, refreshed, loaded, is_quiet}
+use Rattle.ld_safety.proofs.Events.{reply_call, retry_call, announced, NamesOnce, Cases, refreshed, loaded, is_quiet}
 use Rattle.ld_safety.proofs.Steps.{told, became, writes_cases, finish_In}
 use Rattle.ld_safety.proofs.NamesKept.{with_names}
 use Rattle.ld_safety.proofs.Lines.{Group, OfNodes, OfNumbers, OfActs, OfTrims, OfSets, OfItems, AllOf, none_of, one_of, kept_of, format_of, acted_of, items_of, quiet_of, line_of}
@@ -42,6 +42,7 @@ use Rattle.ld_safety.proofs.Appends.{RowOf, Continues, row_end}
 use Rattle.ld_safety.proofs.Continues.{stays_same, reply_continues, retry_continues}
 use Rattle.ld_safety.proofs.RegisterSteps.{Same, Advanced, activate_granted, activate_leaves, close_leaves, draw_leaves, swap_leaves, epochs_put, epochs_same}
 use Rattle.ld_batch.specs.Batch.{packed}
+use Rattle.ld_machine.specs.Calm.{Move, Takes, event_of}
 
 -- ---- what the steps say of a name ----
 
@@ -98,12 +99,12 @@ not_activated s ls (events.Activate name l) h = cond_both (same name s && any_of
     (λ t. absurd (let p = and_parts (same name s) (any_of (activates_name s) ls) t in let x = any_in (activates_name s) ls p.1 in let a = active_in s x.0 x.2 in h a.0 (subst (λ y. In y ls) a.1 x.1))) (λ t. refl)
 not_activated s ls _ h = refl
 
-old_line : (hs : List Happened) (old : Register) (e : Event) (d : Done) (s : List ℕ) (n k : ℕ) → Says_nothing s d.lines → Writes (hs ++ told old e d ∷ []) k (lines.Appended s n) → Writes hs k (lines.Appended s n)
+old_line : (hs : List Happened) (old : Register) (e : Move) (d : Done) (s : List ℕ) (n k : ℕ) → Says_nothing s d.lines → Writes (hs ++ told old e d ∷ []) k (lines.Appended s n) → Writes hs k (lines.Appended s n)
 old_line hs old e d s n k a w = elim (writes_cases hs (told old e d) k _ w) [ inl o ↦ o | inr i ↦ absurd ((finished_silent s d a).1 n i.1) ]
 
-module _ (hs : List Happened) (old : Register) (e : Event) (d : Done) (s : List ℕ) (a : Says_nothing s d.lines) where
+module _ (hs : List Happened) (old : Register) (e : Move) (d : Done) (s : List ℕ) (a : Says_nothing s d.lines) where
   log_kept : (o : Option ℕ) → sequencer_log s hs ≡ o → sequencer_log s (hs ++ told old e d ∷ []) ≡ o
-  log_kept None h = log_grows s hs (told old e d) ∙ or_else_none _ _ h (not_activated s (finish d).lines e (finished_silent s d a).0)
+  log_kept None h = log_grows s hs (told old e d) ∙ or_else_none _ _ h (not_activated s (finish d).lines (event_of e) (finished_silent s d a).0)
   log_kept (Some l) h = log_grows s hs (told old e d) ∙ or_else_some _ _ l h
 
   unknown_stays : Unknown hs s → Unknown (hs ++ told old e d ∷ []) s
@@ -124,7 +125,7 @@ module _ (hs : List Happened) (old : Register) (e : Event) (d : Done) (s : List 
 
 -- ---- an append ----
 
-module _ (hs : List Happened) (old : Register) (e : Event) (d : Done) (s : List ℕ) (q : Sequencer) (payload : List ℕ) (L : d.lines ≡ lines.Appended s (numbered q.epoch (next_esn q)) ∷ []) (A : next_esn q < last_esn) (u : Counts hs s q) where
+module _ (hs : List Happened) (old : Register) (e : Move) (d : Done) (s : List ℕ) (q : Sequencer) (payload : List ℕ) (L : d.lines ≡ lines.Appended s (numbered q.epoch (next_esn q)) ∷ []) (A : next_esn q < last_esn) (u : Counts hs s q) where
   append_line : (n k : ℕ) → Writes (hs ++ told old e d ∷ []) k (lines.Appended s n) → Writes hs k (lines.Appended s n) ⊎ ((k ≡ length hs) × (n ≡ numbered q.epoch (next_esn q)))
   append_line n k w = elim (writes_cases hs (told old e d) k _ w) [
     | inl o ↦ inl o
@@ -172,8 +173,8 @@ below_last q payload l h = elim (branch (nat_lt payload_limit (length payload)) 
 -- ---- an activation ----
 
 module _ (hs : List Happened) (old : Register) (d : Done) (s : List ℕ) (l epoch lce : ℕ) (looks : ℕ → View) (p : Spec) (L : d.lines ≡ lines.Active s epoch ∷ []) (u : Unknown hs s) where
-  none_appended : (n k : ℕ) → Writes (hs ++ told old (events.Activate s l) d ∷ []) k (lines.Appended s n) → ⊥
-  none_appended n k w = elim (writes_cases hs (told old (events.Activate s l) d) k _ w) [
+  none_appended : (n k : ℕ) → Writes (hs ++ told old (Takes (events.Activate s l)) d ∷ []) k (lines.Appended s n) → ⊥
+  none_appended n k w = elim (writes_cases hs (told old (Takes (events.Activate s l)) d) k _ w) [
     | inl o ↦ u.silent n k o
     | inr i ↦ let x : In (lines.Appended s n) (lines.Active s epoch ∷ []) = subst (λ ls. In (lines.Appended s n) ls) L (line_of d _ (λ h. absurd cc) i.1) in elim x [ inl z ↦ cc | inr z ↦ z ]
   ]
@@ -182,10 +183,10 @@ module _ (hs : List Happened) (old : Register) (d : Done) (s : List ℕ) (l epoc
   now_active = ap (λ b. cond (b && any_of (activates_name s) (finish d).lines) (Some l) None) (same-self s)
       ∙ ap (λ b. cond b (Some l) None) (any_from (activates_name s) (lines.Active s epoch) (finish d).lines (finish_In d _ (subst (λ ls. In (lines.Active s epoch) ls) (sym L) (inl refl))) (same-self s))
 
-  counts_active : Counts (hs ++ told old (events.Activate s l) d ∷ []) s (activated looks p l epoch lce)
+  counts_active : Counts (hs ++ told old (Takes (events.Activate s l)) d ∷ []) s (activated looks p l epoch lce)
   unfolding activated
   counts_active = record {
-    known = log_grows s hs (told old (events.Activate s l) d) ∙ (or_else_new _ _ u.unknown ∙ now_active);
+    known = log_grows s hs (told old (Takes (events.Activate s l)) d) ∙ (or_else_new _ _ u.unknown ∙ now_active);
     small = omega arith;
     row = tt;
     below = λ n k w. absurd (none_appended n k w);
@@ -283,7 +284,7 @@ active_once m r n s l fixed p f rises g h k o = record {
 
 -- ---- every event ----
 
-module _ (c : Config) (hs : List Happened) (w : World) (e : Event) (N : NamesOnce w.state) (A : AllCounts hs w) where
+module _ (c : Config) (hs : List Happened) (w : World) (e : Move) (N : NamesOnce w.state) (A : AllCounts hs w) where
   abbrev Result : Done → Type 0
   Result d = AllCounts (hs ++ told w.state.register e d ∷ []) (became w e d [])
 
@@ -335,7 +336,7 @@ module _ (c : Config) (hs : List Happened) (w : World) (e : Event) (N : NamesOnc
       }
 
   activates_one : (d : Done) (name : List ℕ) (l epoch lce : ℕ) (looks : ℕ → View) (p : Spec) → d.state.sequencers ≡ put_named name (activated looks p l epoch lce) w.state.sequencers → Advanced w.state.register l p d.state.register → epoch ≡ (epochs_of d.state.register l).epoch → d.lines ≡ lines.Active name epoch ∷ []
-      → find_named name w.state.sequencers ≡ None → Rises w.state.register d.state.register → e ≡ events.Activate name l → Result d
+      → find_named name w.state.sequencers ≡ None → Rises w.state.register d.state.register → e ≡ Takes (events.Activate name l) → Result d
   unfolding finish activated
   activates_one d name l epoch lce looks p z r k L f up x =
       let u : Unknown hs name = subst (λ (o : Option Sequencer). CountedBy hs name o) f (A.counted name) in
@@ -382,15 +383,15 @@ module _ (c : Config) (hs : List Happened) (w : World) (e : Event) (N : NamesOnc
   ticked n l (Asks from) = stays (Step.ticks_as c w.state n l (Asks from)) refl no_rise sends_nothing
   ticked n l Nothing = stays (Step.ticks_as c w.state n l Nothing) refl no_rise sends_nothing
 
-  acted_on : (f : List ℕ) (name : List ℕ) (q : Sequencer) (a : Acts) → find_named name w.state.sequencers ≡ Some q → (RowOf q → Continues q (called (looks_at c w.state.register q.log) w.state.register a a.tries).acts.sequencer) → Result (Step.acted c (refreshed w.state f) name q a)
-  acted_on f name q a h k = goes_on (Step.acted c (refreshed w.state f) name q a) name q (called (looks_at c w.state.register q.log) w.state.register a a.tries).acts.sequencer refl (called_rises (looks_at c w.state.register q.log) w.state.register a a.tries) h
-      (acts _ (acted_of name q (called (looks_at c w.state.register q.log) w.state.register a a.tries).acts)) k
+  acted_on : (again : Bool) (f : List ℕ) (name : List ℕ) (q : Sequencer) (call : Called) → Rises w.state.register call.register → find_named name w.state.sequencers ≡ Some q → (RowOf q → Continues q call.acts.sequencer) → Result (Step.told (refreshed w.state f) name q (announced again call))
+  acted_on again f name q call r h k = goes_on (Step.told (refreshed w.state f) name q (announced again call)) name q call.acts.sequencer refl r h
+      (acts _ (acted_of name q call.acts)) k
 
   count_cases : Cases c w.state e (λ d m. Result d)
   count_cases = record {
-    still = λ f i. stays _ refl no_rise sends_nothing;
+    still = λ f older i. stays _ refl no_rise sends_nothing;
     says = λ x q. stays _ refl no_rise (quiet_says x q);
-    node_hears = λ f n m i t v o. handled f (Step.releases (node_at w.state n) m.log m.body) n m (Step.node_handles n (node_at w.state n) m).op (Step.node_handles n (node_at w.state n) m).answer;
+    node_hears = λ f older n m i t v o. handled f (Step.releases (node_at w.state n) m.log m.body) n m (Step.node_handles n (node_at w.state n) m).op (Step.node_handles n (node_at w.state n) m).answer;
     loads = λ n ls q b o. stays _ refl no_rise (quiet_all ls q);
     draw_fails = λ n b. stays _ refl (draw_rises w.state.register n) (nodes (lines.NodeRefusedRegister n ∷ []) (one_of (lines.NodeRefusedRegister n)));
     formats = λ n r g b v i. keeps_one (with_register (loaded w.state n) r) n (ops.Format (generation_of r n) (epochs_in r.logs)) (Step.format_lines c n r) [] refl (subst (λ (d : Changed). Rises w.state.register d.register) i (draw_rises w.state.register n)) (format_of c n r);
@@ -400,15 +401,15 @@ module _ (c : Config) (hs : List Happened) (w : World) (e : Event) (N : NamesOnc
     faults = λ n f o. stays _ refl no_rise sends_nothing;
     sets = λ l r x set h. stays _ refl no_rise (λ s. groups_apart s OfSets (lines.Set l r x set ∷ []) (λ h. cc) (one_of (lines.Set l r x set)));
     arms = λ k done o. stays _ refl no_rise sends_nothing;
-    hears = λ f name q m i t l v o. acted_on f name q (on_reply (looks_at c w.state.register q.log) q (Step.sender_node m.from) m.body) v.named (λ r. reply_continues c w.state q r name (Step.sender_node m.from) m.body v.there);
-    retries = λ name q v o. acted_on w.state.network.fresh name q (on_retry (looks_at c w.state.register q.log) q) v.named (λ r. retry_continues c w.state q r v.there);
+    hears = λ f older name q m i t l v o. acted_on false f name q (reply_call c w.state q (Step.sender_node m.from) m.body) (called_rises (looks_at c w.state.register q.log) w.state.register (on_reply (looks_at c w.state.register q.log) q (Step.sender_node m.from) m.body) _) v.named (λ r. reply_continues c w.state q r name (Step.sender_node m.from) m.body v.there);
+    retries = λ again name q v o. acted_on again w.state.network.fresh name q (retry_call c w.state q) (called_rises (looks_at c w.state.register q.log) w.state.register (on_retry (looks_at c w.state.register q.log) q) _) v.named (λ r. retry_continues c w.state q r v.there);
     appends = λ name q p v a i. appends_one _ name q p refl refl refl v.named a;
     trims = λ name q t v b. stays _ refl no_rise (λ s. groups_apart s OfTrims (lines.Trimmed name t ∷ []) (λ h. cc) (one_of (lines.Trimmed name t)));
     drops = λ name q v o. goes_on _ name q (Step.dropped q) refl no_rise v.named sends_nothing (λ r. record { log = refl; epoch = refl; count = refl; row = r });
     activates = λ name l r g n i x. activates_one _ name l (epochs_of r l).epoch (lce_of r l) (looks_at c r l) (Step.spec_set c w.state l) refl (activate_granted w.state.register l (Step.spec_set c w.state l) r i) refl refl n (subst (λ (d : Changed). Rises w.state.register d.register) i (activate_rises w.state.register l (Step.spec_set c w.state l))) x;
     swaps = λ n m l x r q i. stays _ refl (swap_rises w.state.register l _ m n) (quiet_says x q);
     activate_fails = λ name l x g q. stays _ refl (activate_rises w.state.register l (Step.spec_set c w.state l)) (quiet_says x q);
-    answers = λ f name d m i t v o. stays _ refl no_rise (λ s. groups_apart s OfItems _ (λ h. cc) (items_of _ name _ (on_answer (looks_at c w.state.register d.log) d (Step.sender_node m.from) m.body).items));
+    answers = λ f older name d m i t v o. stays _ refl no_rise (λ s. groups_apart s OfItems _ (λ h. cc) (items_of _ name _ (on_answer (looks_at c w.state.register d.log) d (Step.sender_node m.from) m.body).items));
     polls = λ name d v o. stays _ refl no_rise sends_nothing;
     opens = λ style name l from until o x. stays _ refl no_rise sends_nothing;
   }

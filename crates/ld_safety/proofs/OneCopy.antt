@@ -3,7 +3,6 @@ use Rattle.std.proofs.Common.{◌≡◌, ◌∙◌, ◌⊎◌, ◌≤◌, ◌<�
 use Rattle.std.proofs.lemmas.Bool.{eqb-true}
 use Rattle.ld_table.specs.Named.{find_named}
 use Rattle.ld_config.specs.declared.config.Config.{Config}
-use Rattle.ld_schedule.specs.declared.event.Event.{Event}
 use Rattle.ld_ids.specs.Choice.{nodes_of}
 use Rattle.ld_msg.specs.declared.msg.What.{What}
 use Rattle.ld_msg.specs.declared.msg.What.TheVariants.{Rec, Hole, Bridge, Plug, Withheld}
@@ -21,7 +20,7 @@ use Rattle.ld_op.specs.Handles.{handled_by, ballot_of}
 use Rattle.ld_machine.specs.Config.{looks_at}
 use Rattle.ld_machine.specs.State.{node_at, posted}
 use Rattle.ld_machine.specs.World.{World, In, begin}
-use Rattle.ld_machine.specs.Run.{Move, next_world, world_after}
+use Rattle.ld_machine.specs.Run.{Move, after_step, world_after}
 use Rattle.ld_machine.specs.Step as Step
 use Rattle.ld_safety.specs.OneCopy.{OneSends}
 use Rattle.ld_safety.proofs.Lists.{Some_inj, In-append, In-map, only, cond_both}
@@ -131,7 +130,7 @@ record OneFine (w : World) : Type 0 where
   asks : AsksSame w.state.network.sent
   pages : PagesOf w.state.network.sent w.state.network.sent
 
-module _ (c : Config) (w : World) (v : Event) (R : RoundsOf w) (O : OneFine w) where
+module _ (c : Config) (w : World) (v : Move) (R : RoundsOf w) (O : OneFine w) where
   record NewOnes (ms : List Msg) : Type 0 where
     asks : (a b : Msg) (r : ℕ) → In a ms → In b w.state.network.sent ⊎ In b ms → a.from ≡ whos.Reader r → b.from ≡ whos.Reader r → wave_of a.body ≡ wave_of b.body → a.body ≡ b.body
     pages : PagesOf w.state.network.sent ms
@@ -197,7 +196,7 @@ module _ (c : Config) (w : World) (v : Event) (R : RoundsOf w) (O : OneFine w) w
     opens = λ style name l from until o. none_new [] (λ m i. absurd i) (λ m i. absurd i);
   }
 
-  one_step : NamesOnce w.state → OneFine (next_world c w v)
+  one_step : NamesOnce w.state → OneFine (after_step c w v)
   unfolding AsksSame PagesOf
   one_step N = let t = talked c w.state v (λ ms ds. NewOnes ms) one_talk N in record {
     asks = λ a b r i j p q s. elim (new_or_old c w.state v a t.same i) [

@@ -12,10 +12,9 @@ use Rattle.ld_op.specs.declared.op.Op.TheVariants as ops
 use Rattle.ld_op.specs.Ticks.{Ticked, Cleans, Rebuilt, Asks, Nothing}
 use Rattle.ld_machine.specs.Config.{looks_at}
 use Rattle.ld_machine.specs.Disk.{Node, Kept, Written, keep_end}
-use Rattle.ld_msg.specs.Sequencer.{Sequencer, Acts, on_reply, on_retry}
+use Rattle.ld_msg.specs.Sequencer.{Called, Sequencer}
 use Rattle.ld_msg.specs.Reader.{Reader, opened, polled, on_answer, poll_asks}
 use Rattle.ld_machine.specs.State.{Done, finish, node_at, with_node, with_reader, with_register, only_state, posted}
-use Rattle.ld_schedule.specs.declared.event.Event.{Event}
 use Rattle.ld_table.proofs.NameLaws.{same-self, find_named-put_named}
 use Rattle.ld_msg.specs.Register.{View, epochs_of, epochs_in, generation_of}
 use Rattle.ld_machine.specs.Facts.{Happened}
@@ -24,11 +23,12 @@ use Rattle.ld_machine.specs.Step as Step
 use Rattle.ld_safety.proofs.Lists.{Some_inj, not_none}
 use Rattle.ld_safety.proofs.Names.{named_cases}
 use Rattle.ld_safety.proofs.Traces.{Keeps}
-use Rattle.ld_safety.proofs.Events.{NamesOnce, Cases, refreshed, loaded}
+use Rattle.ld_safety.proofs.Events.{reply_call, retry_call, announced, NamesOnce, Cases, refreshed, loaded}
 use Rattle.ld_safety.proofs.Steps.{sent_by}
 use Rattle.ld_safety.proofs.NamesKept.{with_names}
 use Rattle.ld_safety.proofs.ReaderSteps.{ReadKeeps, answered}
 use Rattle.ld_msg.specs.declared.style.Style.{Style}
+use Rattle.ld_machine.specs.Calm.{Move}
 
 -- ---- lengths ----
 length-put : {X : Type 0} (k : List ℕ) (v : X) (m : List (List ℕ × X)) → length m ≤ length (put_named k v m)
@@ -226,8 +226,8 @@ module _ (c : Config) (w : World) (A : Apart w.state.network.sent w.state.reader
   ticked n l (Asks from) = to_nodes (Step.ticks_as c w.state n l (Asks from)) refl refl (posted_apart (whos.Node n) l _ (λ r q. cc))
   ticked n l Nothing = silent (Step.ticks_as c w.state n l Nothing) refl refl refl
 
-  acted : (f : List ℕ) (name : List ℕ) (q : Sequencer) (a : Acts) → Result (Step.acted c (refreshed w.state f) name q a)
-  acted f name q a = to_nodes (Step.acted c (refreshed w.state f) name q a) refl refl (posted_apart (whos.Sequencer q.epoch) q.log _ (λ r z. cc))
+  acted : (again : Bool) (f : List ℕ) (name : List ℕ) (q : Sequencer) (call : Called) → Result (Step.told (refreshed w.state f) name q (announced again call))
+  acted again f name q call = to_nodes (Step.told (refreshed w.state f) name q (announced again call)) refl refl (posted_apart (whos.Sequencer q.epoch) q.log _ (λ r z. cc))
 
   reads : (f : List ℕ) (name : List ℕ) (d : Reader) (y : ℕ) (b : Body) → find_named name w.state.readers ≡ Some d → Result (Step.read (refreshed w.state f) name (on_answer (looks_at c w.state.register d.log) d y b))
   reads f name d y b h = let x = (on_answer (looks_at c w.state.register d.log) d y b).reader in let s = same_reader (looks_at c w.state.register d.log) d y b in
@@ -240,11 +240,11 @@ module _ (c : Config) (w : World) (A : Apart w.state.network.sent w.state.reader
   opened_one style name l from until h = let x = opened style l (length w.state.readers) from until in
       more_messages w.state.network.sent (put_named name x w.state.readers) (only_state (with_reader w.state name x)) refl refl (λ m i. absurd i) (one_opened w.state.network.sent w.state.readers name x h refl A)
 
-  pub apart_cases : (e : Event) → Cases c w.state e (λ d m. Result d)
+  pub apart_cases : (e : Move) → Cases c w.state e (λ d m. Result d)
   apart_cases e = record {
-    still = λ f i. silent _ refl refl refl;
+    still = λ f older i. silent _ refl refl refl;
     says = λ x q. silent _ refl refl refl;
-    node_hears = λ f n m i t v o. handled f (Step.releases (node_at w.state n) m.log m.body) n m i (Step.node_handles n (node_at w.state n) m).op (Step.node_handles n (node_at w.state n) m).answer;
+    node_hears = λ f older n m i t v o. handled f (Step.releases (node_at w.state n) m.log m.body) n m i (Step.node_handles n (node_at w.state n) m).op (Step.node_handles n (node_at w.state n) m).answer;
     loads = λ n ls q b o. silent _ refl refl refl;
     draw_fails = λ n b. silent _ refl refl refl;
     formats = λ n r g b v i. to_nodes (Step.keeps_op (with_register (loaded w.state n) r) n (ops.Format (generation_of r n) (epochs_in r.logs)) (Step.format_lines c n r) []) refl refl
@@ -255,15 +255,15 @@ module _ (c : Config) (w : World) (A : Apart w.state.network.sent w.state.reader
     faults = λ n f o. silent _ refl refl refl;
     sets = λ l r x set h. silent _ refl refl refl;
     arms = λ k done o. silent _ refl refl refl;
-    hears = λ f name q m i t l v o. acted f name q (on_reply (looks_at c w.state.register q.log) q (Step.sender_node m.from) m.body);
-    retries = λ name q v o. acted w.state.network.fresh name q (on_retry (looks_at c w.state.register q.log) q);
+    hears = λ f older name q m i t l v o. acted false f name q (reply_call c w.state q (Step.sender_node m.from) m.body);
+    retries = λ again name q v o. acted again w.state.network.fresh name q (retry_call c w.state q);
     appends = λ name q p v a i. to_nodes _ refl refl (posted_apart (whos.Sequencer q.epoch) q.log _ (λ r z. cc));
     trims = λ name q t v b. to_nodes _ refl refl (posted_apart (whos.Sequencer q.epoch) q.log _ (λ r z. cc));
     drops = λ name q v o. silent _ refl refl refl;
     activates = λ name l r g n i x. to_nodes _ refl refl (posted_apart (whos.Sequencer (epochs_of r l).epoch) l _ (λ r z. cc));
     swaps = λ n m l x r q i. silent _ refl refl refl;
     activate_fails = λ name l x g q. silent _ refl refl refl;
-    answers = λ f name d m i t v o. reads f name d (Step.sender_node m.from) m.body v.named;
+    answers = λ f older name d m i t v o. reads f name d (Step.sender_node m.from) m.body v.named;
     polls = λ name d v o. polled_one name d v.named;
     opens = λ style name l from until o x. opened_one style name l from until o.fresh_name;
   }
@@ -272,7 +272,7 @@ pub apart_start : Apart [] []
 unfolding find_named
 apart_start = record { numbers = λ s d h. absurd (not_none h); once = λ s t d x h. absurd (not_none h); known = λ m r i. absurd i; logs = λ m r s d i. absurd i }
 
-finished : (c : Config) (w : World) (e : Event) → Cases c w.state e (λ d m. Apart (finish d).state.network.sent d.state.readers) → Cases c w.state e (λ d m. Apart (finish d).state.network.sent (finish d).state.readers)
+finished : (c : Config) (w : World) (e : Move) → Cases c w.state e (λ d m. Apart (finish d).state.network.sent d.state.readers) → Cases c w.state e (λ d m. Apart (finish d).state.network.sent (finish d).state.readers)
 unfolding finish
 finished c w e h = h
 

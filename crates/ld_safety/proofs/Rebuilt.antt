@@ -4,7 +4,6 @@ use Rattle.std.specs.Option.{unwrap_or}
 use Rattle.ld_table.specs.Table.{find}
 use Rattle.ld_table.proofs.Laws.{put_cases, find-put_same}
 use Rattle.ld_config.specs.declared.config.Config.{Config}
-use Rattle.ld_schedule.specs.declared.event.Event.{Event}
 use Rattle.ld_transcript.specs.declared.line.Line.{Line}
 use Rattle.ld_transcript.specs.declared.line.Line.TheVariants as lines
 use Rattle.ld_ids.specs.declared.set.Spec.{Spec}
@@ -12,7 +11,7 @@ use Rattle.ld_msg.specs.declared.msg.Summary.{Summary}
 use Rattle.ld_msg.specs.declared.msg.Msg.{Msg}
 use Rattle.ld_msg.specs.declared.msg.Body.{Body}
 use Rattle.ld_msg.specs.Register.{Register, generation_of, epochs_of, epochs_in}
-use Rattle.ld_msg.specs.Sequencer.{called, on_reply, on_retry}
+use Rattle.ld_msg.specs.Sequencer.{called, on_reply}
 use Rattle.ld_op.specs.declared.op.Op.{Op}
 use Rattle.ld_op.specs.declared.op.Op.TheVariants as ops
 use Rattle.ld_op.specs.Plain.{Plain, Log, log_of, empty_log, is_lost, apply, with_log, refilled}
@@ -23,16 +22,16 @@ use Rattle.ld_machine.specs.State.{State, Done, finish, node_at, with_node, with
 use Rattle.ld_machine.specs.Facts.{Happened, Writes, Lost, standing, stands_for}
 use Rattle.ld_machine.specs.World.{World, In, begin}
 use Rattle.ld_machine.specs.Invariant.{LostOnce}
-use Rattle.ld_machine.specs.Run.{Move, Takes, next_world, world_after, trace}
+use Rattle.ld_machine.specs.Run.{Move, after_step, world_after, trace}
 use Rattle.ld_machine.specs.Step as Step
 use Rattle.std.proofs.lemmas.Bool.{cases_Bool}
 use Rattle.ld_safety.specs.Lost.{cut_may, may_be_lost, WholeStays}
 use Rattle.ld_safety.specs.Lost.{IsWhole as Whole}
 use Rattle.ld_safety.proofs.Lists.{Some_inj, not_none, not_both, In-append, In-slice_get, slice_get_below, slice_get_last, slice_get-In}
-use Rattle.ld_safety.proofs.Traces.{Keeps, happened, later, beside_kept, both_kept}
+use Rattle.ld_safety.proofs.Traces.{Keeps, step_happened, later, beside_kept, both_kept}
 use Rattle.ld_safety.proofs.Steps.{writes_cases, writes_before, finish_In}
 use Rattle.ld_safety.proofs.Lines.{Group, OfNodes, OfActs, OfItems, AllOf, acted_of, items_of, line_of}
-use Rattle.ld_safety.proofs.Events.{NamesOnce, Cases, dispatch, is_quiet, refreshed, loaded}
+use Rattle.ld_safety.proofs.Events.{retry_call, announced, NamesOnce, Cases, dispatch, is_quiet, refreshed, loaded}
 use Rattle.ld_safety.proofs.Base.{Base}
 use Rattle.ld_safety.proofs.GivenSteps.{BaseGiven}
 use Rattle.ld_safety.proofs.HoldSteps.{UpFine, is_format, same_generation, handled_plain}
@@ -43,6 +42,7 @@ use Rattle.ld_safety.proofs.LostFullKept.{AllFull, full_kept}
 use Rattle.ld_safety.proofs.Along.{Along}
 use Rattle.ld_safety.proofs.AlongSteps.{along_kept}
 use Rattle.ld_safety.proofs.Holding.{full_here}
+use Rattle.ld_machine.specs.Calm as Calm
 
 -- a node that is blank is unformatted
 abbrev pub BlankFine : Node → Type 0
@@ -94,7 +94,7 @@ was_lost g closed h = by_found (find (lowest_unclean g) closed) h where
   by_found (Some z) q = absurd cc
 
 -- ---- what a step leaves ----
-module _ (c : Config) (s : State) (e : Event) (U : (y : ℕ) → UpFine (node_at s y)) (K : (y : ℕ) → BlankFine (node_at s y)) where
+module _ (c : Config) (s : State) (e : Move) (U : (y : ℕ) → UpFine (node_at s y)) (K : (y : ℕ) → BlankFine (node_at s y)) where
   -- nodes that were whole are, but those that are wiped
   StillWhole : Done → Type 0
   StillWhole d = (y l : ℕ) → Whole l (node_at s y) → In (lines.NodeWiped y) d.lines ⊎ Whole l (node_at d.state y)
@@ -145,9 +145,9 @@ module _ (c : Config) (s : State) (e : Event) (U : (y : ℕ) → UpFine (node_at
 
   whole_cases : Cases c s e (λ d m. StillWhole d)
   whole_cases = record {
-    still = λ f i. by_state _ same;
+    still = λ f older i. by_state _ same;
     says = λ x q. by_state _ same;
-    node_hears = λ f n m i t v o. by_state _ (handled f n m (Step.node_handles n (node_at s n) m).op (Step.node_handles n (node_at s n) m).answer refl);
+    node_hears = λ f older n m i t v o. by_state _ (handled f n m (Step.node_handles n (node_at s n) m).op (Step.node_handles n (node_at s n) m).answer refl);
     loads = λ n ls q b o. by_state _ (load_still n);
     draw_fails = λ n b. by_state _ (load_still n);
     formats = λ n r g b v i. by_state _ (formatted n r b);
@@ -157,15 +157,15 @@ module _ (c : Config) (s : State) (e : Event) (U : (y : ℕ) → UpFine (node_at
     faults = λ n f o. by_state _ (put_still s n (Step.with_fault (node_at s n) f) (λ l W p h. W p h) same);
     sets = λ l r x set h. by_state _ same;
     arms = λ k done o. by_state _ same;
-    hears = λ f name q m i t l v o. by_state _ same;
-    retries = λ name q v o. by_state _ same;
+    hears = λ f older name q m i t l v o. by_state _ same;
+    retries = λ again name q v o. by_state _ same;
     appends = λ name q p v a i. by_state _ same;
     trims = λ name q t v b. by_state _ same;
     drops = λ name q v o. by_state _ same;
     activates = λ name l r g n i x. by_state _ same;
     swaps = λ n m l x r q i. by_state _ same;
     activate_fails = λ name l x g q. by_state _ same;
-    answers = λ f name d m i t v o. by_state _ same;
+    answers = λ f older name d m i t v o. by_state _ same;
     polls = λ name d v o. by_state _ same;
     opens = λ style name l from until o x. by_state _ same;
   }
@@ -235,9 +235,9 @@ module _ (c : Config) (s : State) (e : Event) (U : (y : ℕ) → UpFine (node_at
 
   rebuild_cases : Cases c s e (λ d m. Rebuilds d)
   rebuild_cases = record {
-    still = λ f i. nobody _ (λ a l z. z);
+    still = λ f older i. nobody _ (λ a l z. z);
     says = λ x q. nobody _ (not_quiet (x ∷ []) (quiet_one x q));
-    node_hears = λ f n m i t v o. hears_none f (Step.releases (node_at s n) m.log m.body) n m (Step.node_handles n (node_at s n) m).op (Step.node_handles n (node_at s n) m).answer;
+    node_hears = λ f older n m i t v o. hears_none f (Step.releases (node_at s n) m.log m.body) n m (Step.node_handles n (node_at s n) m).op (Step.node_handles n (node_at s n) m).answer;
     loads = λ n ls q b o. nobody _ (not_quiet ls q);
     draw_fails = λ n b. nobody _ (not_one (lines.NodeRefusedRegister n) (λ a l z. cc));
     formats = λ n r g b v i. nobody _ (not_kept n (Step.format_lines c n r) (keep_end (node_at (with_register (loaded s n) r) n) (ops.Format (generation_of r n) (epochs_in r.logs))) (not_format n r));
@@ -247,15 +247,15 @@ module _ (c : Config) (s : State) (e : Event) (U : (y : ℕ) → UpFine (node_at
     faults = λ n f o. nobody _ (λ a l z. z);
     sets = λ l r x set h. nobody _ (not_one (lines.Set l r x set) (λ a b z. cc));
     arms = λ k done o. nobody _ (λ a l z. z);
-    hears = λ f name q m i t l v o. nobody _ (not_group OfActs _ (λ h. cc) (acted_of name q (called (looks_at c s.register q.log) s.register (on_reply (looks_at c s.register q.log) q (Step.sender_node m.from) m.body) (on_reply (looks_at c s.register q.log) q (Step.sender_node m.from) m.body).tries).acts));
-    retries = λ name q v o. nobody _ (not_group OfActs _ (λ h. cc) (acted_of name q (called (looks_at c s.register q.log) s.register (on_retry (looks_at c s.register q.log) q) (on_retry (looks_at c s.register q.log) q).tries).acts));
+    hears = λ f older name q m i t l v o. nobody _ (not_group OfActs _ (λ h. cc) (acted_of name q (called (looks_at c s.register q.log) s.register (on_reply (looks_at c s.register q.log) q (Step.sender_node m.from) m.body) (on_reply (looks_at c s.register q.log) q (Step.sender_node m.from) m.body).tries).acts));
+    retries = λ again name q v o. nobody _ (not_group OfActs _ (λ h. cc) (acted_of name q (announced again (retry_call c s q)).acts));
     appends = λ name q p v a i. nobody _ (not_one (lines.Appended name _) (λ a l z. cc));
     trims = λ name q t v b. nobody _ (not_one (lines.Trimmed name t) (λ a l z. cc));
     drops = λ name q v o. nobody _ (λ a l z. z);
     activates = λ name l r g n i x. nobody _ (not_one (lines.Active name _) (λ a l z. cc));
     swaps = λ n m l x r q i. nobody _ (not_quiet (x ∷ []) (quiet_one x q));
     activate_fails = λ name l x g q. nobody _ (not_quiet (x ∷ []) (quiet_one x q));
-    answers = λ f name d m i t v o. nobody _ (not_group OfItems _ (λ h. cc) (items_of _ name _ _));
+    answers = λ f older name d m i t v o. nobody _ (not_group OfItems _ (λ h. cc) (items_of _ name _ _));
     polls = λ name d v o. nobody _ (λ a l z. z);
     opens = λ style name l from until o x. nobody _ (λ a l z. z);
   }
@@ -266,43 +266,43 @@ pub record RebuiltKept (c : Config) (hs : List Happened) (w : World) : Type 0 wh
   pub kept : (n l i : ℕ) → Writes hs i (lines.NodeRebuilt n l) → ((k : ℕ) × (i < k) × Writes hs k (lines.NodeWiped n)) ⊎ Whole l (node_at w.state n)
   pub once : (n l i j : ℕ) → Writes hs i (lines.NodeRebuilt n l) → Writes hs j (lines.NodeRebuilt n l) → i < j → (k : ℕ) × (i < k) × (k < j) × Writes hs k (lines.NodeWiped n)
 
-module _ (c : Config) (hs : List Happened) (w : World) (e : Event) (N : NamesOnce w.state) (U : (y : ℕ) → UpFine (node_at w.state y)) (K : (y : ℕ) → BlankFine (node_at w.state y)) (H : RebuiltKept c hs w) where
+module _ (c : Config) (hs : List Happened) (w : World) (e : Move) (N : NamesOnce w.state) (U : (y : ℕ) → UpFine (node_at w.state y)) (K : (y : ℕ) → BlankFine (node_at w.state y)) (H : RebuiltKept c hs w) where
   abbrev next : List Happened
-  next = hs ++ happened c w.state e ∷ []
+  next = hs ++ step_happened c w.state e ∷ []
 
-  still_whole : (y l : ℕ) → Whole l (node_at w.state y) → In (lines.NodeWiped y) (Step.happens c w.state e).lines ⊎ Whole l (node_at (Step.happens c w.state e).state y)
+  still_whole : (y l : ℕ) → Whole l (node_at w.state y) → In (lines.NodeWiped y) (Calm.moves c w.state e).lines ⊎ Whole l (node_at (Calm.moves c w.state e).state y)
   unfolding StillWhole
   still_whole = dispatch c w.state e (λ d m. StillWhole c w.state e U K d) N (whole_cases c w.state e U K)
 
-  rebuilds_now : (n l : ℕ) → In (lines.NodeRebuilt n l) (happened c w.state e).lines → ((log_of (node_at w.state n).plain l).lost ≡ true) × Whole l (node_at (Step.happens c w.state e).state n)
+  rebuilds_now : (n l : ℕ) → In (lines.NodeRebuilt n l) (step_happened c w.state e).lines → ((log_of (node_at w.state n).plain l).lost ≡ true) × Whole l (node_at (Calm.moves c w.state e).state n)
   unfolding Rebuilds
-  rebuilds_now n l i = (dispatch c w.state e (λ d m. Rebuilds c w.state e U K d) N (rebuild_cases c w.state e U K)) n l (line_of (Step.happens c w.state e) (lines.NodeRebuilt n l) (λ h. cc) i)
+  rebuilds_now n l i = (dispatch c w.state e (λ d m. Rebuilds c w.state e U K d) N (rebuild_cases c w.state e U K)) n l (line_of (Calm.moves c w.state e) (lines.NodeRebuilt n l) (λ h. cc) i)
 
-  writes_now : (x : Line) → In x (Step.happens c w.state e).lines → Writes (hs ++ happened c w.state e ∷ []) (length hs) x
-  writes_now x i = let y = slice_get-In _ _ (finish_In (Step.happens c w.state e) x i) in (happened c w.state e, slice_get_last (happened c w.state e) hs [], y.0, y.1)
+  writes_now : (x : Line) → In x (Calm.moves c w.state e).lines → Writes (hs ++ step_happened c w.state e ∷ []) (length hs) x
+  writes_now x i = let y = slice_get-In _ _ (finish_In (Calm.moves c w.state e) x i) in (step_happened c w.state e, slice_get_last (step_happened c w.state e) hs [], y.0, y.1)
 
   place : (k : ℕ) (x : Line) → Writes hs k x → k < length hs
   place k x v = slice_get_below v.0 hs k v.1
 
-  pub rebuilt_step : RebuiltKept c (hs ++ happened c w.state e ∷ []) (next_world c w e)
+  pub rebuilt_step : RebuiltKept c (hs ++ step_happened c w.state e ∷ []) (after_step c w e)
   unfolding finish
   rebuilt_step = record {
-    kept = λ n l i x. elim (writes_cases hs (happened c w.state e) i _ x) [
+    kept = λ n l i x. elim (writes_cases hs (step_happened c w.state e) i _ x) [
       | inl a ↦ elim (H.kept n l i a) [
-        | inl y ↦ inl (y.0, y.1, writes_before hs (happened c w.state e ∷ []) y.0 _ y.2)
+        | inl y ↦ inl (y.0, y.1, writes_before hs (step_happened c w.state e ∷ []) y.0 _ y.2)
         | inr y ↦ elim (still_whole n l y) [ inl v ↦ inl (length hs, place i _ a, writes_now (lines.NodeWiped n) v) | inr v ↦ inr v ]
       ]
       | inr a ↦ inr (rebuilds_now n l a.1).1
     ];
-    once = λ n l i j x y lt. elim (writes_cases hs (happened c w.state e) i _ x) [
-      | inl a ↦ elim (writes_cases hs (happened c w.state e) j _ y) [
-        | inl b ↦ let z = H.once n l i j a b lt in (z.0, z.1, z.2, writes_before hs (happened c w.state e ∷ []) z.0 _ z.3)
+    once = λ n l i j x y lt. elim (writes_cases hs (step_happened c w.state e) i _ x) [
+      | inl a ↦ elim (writes_cases hs (step_happened c w.state e) j _ y) [
+        | inl b ↦ let z = H.once n l i j a b lt in (z.0, z.1, z.2, writes_before hs (step_happened c w.state e ∷ []) z.0 _ z.3)
         | inr b ↦ elim (H.kept n l i a) [
-          | inl v ↦ (v.0, v.1, (let u = place v.0 _ v.2 in let q = b.0 in omega arith), writes_before hs (happened c w.state e ∷ []) v.0 _ v.2)
+          | inl v ↦ (v.0, v.1, (let u = place v.0 _ v.2 in let q = b.0 in omega arith), writes_before hs (step_happened c w.state e ∷ []) v.0 _ v.2)
           | inr v ↦ absurd (not_both (log_of (node_at w.state n).plain l).lost (rebuilds_now n l b.1).0 (v (node_at w.state n).plain (inl refl)).1)
         ]
       ]
-      | inr a ↦ elim (writes_cases hs (happened c w.state e) j _ y) [
+      | inr a ↦ elim (writes_cases hs (step_happened c w.state e) j _ y) [
         | inl b ↦ absurd (let u = place j _ b in let q = a.0 in omega arith)
         | inr b ↦ absurd (let p = a.0 in let q = b.0 in omega arith)
       ]
@@ -342,16 +342,16 @@ whole_on : (c : Config) (hs : List Happened) (w : World) (es : List Move) (y l :
     → Whole l (node_at (world_after c w es).state y) × ((k : ℕ) → Writes (trace c w es) k (lines.NodeRebuilt y l) → ⊥)
 unfolding world_after finish
 whole_on c hs w [] y l R W n = (W, λ k x. absurd (not_none x.1))
-whole_on c hs w (Takes e ∷ es) y l R W n =
+whole_on c hs w (e ∷ es) y l R W n =
     let N = R.0.0.0.0.0.0.0 in
     let U = R.0.0.0.1.ups in
     let K : (z : ℕ) → BlankFine (node_at w.state z) = λ z h. ((R.0.0.1.1.1 z 0).idle h).0 in
     elim (still_whole c hs w e N U K R.1 y l W) [
-      | inl a ↦ absurd (n 0 (first_line (happened c w.state e) (trace c (next_world c w e) es) (lines.NodeWiped y) (finish_In (Step.happens c w.state e) _ a)))
-      | inr a ↦ let rest = whole_on c (hs ++ happened c w.state e ∷ []) (next_world c w e) es y l ((rebuilding_kept c).goes_on hs w e R) a (λ k x. n (suc k) (next_line (happened c w.state e) (trace c (next_world c w e) es) k _ x)) in
+      | inl a ↦ absurd (n 0 (first_line (step_happened c w.state e) (trace c (after_step c w e) es) (lines.NodeWiped y) (finish_In (Calm.moves c w.state e) _ a)))
+      | inr a ↦ let rest = whole_on c (hs ++ step_happened c w.state e ∷ []) (after_step c w e) es y l ((rebuilding_kept c).goes_on hs w e R) a (λ k x. n (suc k) (next_line (step_happened c w.state e) (trace c (after_step c w e) es) k _ x)) in
           (rest.0, no_line rest.1)
     ] where
-      no_line : ((k : ℕ) → Writes (trace c (next_world c w e) es) k (lines.NodeRebuilt y l) → ⊥) → (k : ℕ) → Writes (trace c w (Takes e ∷ es)) k (lines.NodeRebuilt y l) → ⊥
+      no_line : ((k : ℕ) → Writes (trace c (after_step c w e) es) k (lines.NodeRebuilt y l) → ⊥) → (k : ℕ) → Writes (trace c w (e ∷ es)) k (lines.NodeRebuilt y l) → ⊥
       no_line r zero x = let z = rebuilds_now c hs w e R.0.0.0.0.0.0.0 R.0.0.0.1.ups (λ z h. ((R.0.0.1.1.1 z 0).idle h).0) R.1 y l (subst (λ (h : Happened). In (lines.NodeRebuilt y l) h.lines) (Some_inj (sym x.1)) (In-slice_get _ _ x.2 x.3)) in
           not_both (log_of (node_at w.state y).plain l).lost z.0 (W (node_at w.state y).plain (inl refl)).1
       no_line r (suc k) x = r k x

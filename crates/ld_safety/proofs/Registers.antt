@@ -8,7 +8,6 @@ use Rattle.ld_ids.specs.declared.set.Spec.{Spec}
 use Rattle.ld_ids.specs.Choice.{nodes_of}
 use Rattle.ld_table.specs.Words.{how_many}
 use Rattle.ld_config.specs.declared.config.Config.{Config}
-use Rattle.ld_schedule.specs.declared.event.Event.{Event}
 use Rattle.ld_msg.specs.declared.msg.Summary.{Summary}
 use Rattle.ld_msg.specs.declared.msg.Msg.{Msg}
 use Rattle.ld_msg.specs.declared.msg.Body.{Body}
@@ -24,9 +23,11 @@ use Rattle.ld_safety.proofs.Lists.{not_none, cond_both}
 use Rattle.ld_safety.proofs.Events.{NamesOnce, Cases, dispatch, refreshed}
 use Rattle.ld_safety.proofs.Swaps.{swapped_above, find-swapped, Like, like_same, like_swapped}
 use Rattle.ld_safety.proofs.RegisterSteps.{Same, activated_epochs, activate_leaves, close_leaves, draw_leaves, swap_leaves, epochs_put, epochs_same}
+use Rattle.ld_machine.specs.Calm as Calm
+use Rattle.ld_machine.specs.Calm.{Move}
 
 -- what each change of the register keeps holds of the register after each event
-module _ (c : Config) (s : State) (e : Event) (P : Register → Type 0) (same : P s.register)
+module _ (c : Config) (s : State) (e : Move) (P : Register → Type 0) (same : P s.register)
     (acts : (l : ℕ) → has_log c l ≡ true → P (activate s.register l (Step.spec_set c s l)).register) (closes : (l k : ℕ) (y : Summary) (b : Bool) → P (close s.register l k y b).register) (draws : (n : ℕ) → P (draw s.register n).register) (swaps : (l upto old new : ℕ) → P (swap s.register l upto old new).register)
     (arms : (n : Register) → n.logs ≡ s.register.logs → P n) where
   by_call : (looks : ℕ → View) (a : Acts) (ts : List Attempt) → P (called looks s.register a ts).register
@@ -45,9 +46,9 @@ module _ (c : Config) (s : State) (e : Event) (P : Register → Type 0) (same : 
 
   register_cases : Cases c s e (λ d m. P d.state.register)
   register_cases = record {
-    still = λ f i. same;
+    still = λ f older i. same;
     says = λ x q. same;
-    node_hears = λ f n m i t v o. handled f n m (Step.releases (node_at s n) m.log m.body) (Step.node_handles n (node_at s n) m).op (Step.node_handles n (node_at s n) m).answer;
+    node_hears = λ f older n m i t v o. handled f n m (Step.releases (node_at s n) m.log m.body) (Step.node_handles n (node_at s n) m).op (Step.node_handles n (node_at s n) m).answer;
     loads = λ n ls q b o. same;
     draw_fails = λ n b. draws n;
     formats = λ n r g b v i. subst (λ (d : Changed). P d.register) i (draws n);
@@ -57,20 +58,20 @@ module _ (c : Config) (s : State) (e : Event) (P : Register → Type 0) (same : 
     faults = λ n f o. same;
     sets = λ l r x set h. same;
     arms = λ k done o. arms (Step.armed s.register k done) refl;
-    hears = λ f name q m i t l v o. by_call _ _ _;
-    retries = λ name q v o. by_call _ _ _;
+    hears = λ f older name q m i t l v o. by_call _ _ _;
+    retries = λ again name q v o. by_call _ _ _;
     appends = λ name q p v a i. same;
     trims = λ name q t v b. same;
     drops = λ name q v o. same;
     activates = λ name l r g n i x. subst (λ (d : Changed). P d.register) i (acts l g);
     swaps = λ n m l x r q i. swaps l _ m n;
     activate_fails = λ name l x g q. acts l g;
-    answers = λ f name d m i t v o. same;
+    answers = λ f older name d m i t v o. same;
     polls = λ name d v o. same;
     opens = λ style name l from until o x. same;
   }
 
-  pub register_kept : NamesOnce s → P (Step.happens c s e).state.register
+  pub register_kept : NamesOnce s → P (Calm.moves c s e).state.register
   register_kept N = dispatch c s e (λ d m. P d.state.register) N register_cases
 
 -- ---- what doesn't fall ----
@@ -102,7 +103,7 @@ put_follow r n l x a b c s h = (
   ]),
 )
 
-pub follows : (c : Config) (s : State) (e : Event) → NamesOnce s → OnlyClosed s.register → Up s.register (Step.happens c s e).state.register × OnlyClosed (Step.happens c s e).state.register
+pub follows : (c : Config) (s : State) (e : Move) → NamesOnce s → OnlyClosed s.register → Up s.register (Calm.moves c s e).state.register × OnlyClosed (Calm.moves c s e).state.register
 follows c s e N h = register_kept c s e (λ n. Follows s.register n) (logs_follow s.register s.register refl h)
     (λ l g. elim (activate_leaves s.register l (Step.spec_set c s l)) [ inl a ↦ logs_follow s.register (activate s.register l (Step.spec_set c s l)).register a.0 h | inr a ↦ put_follow s.register (activate s.register l (Step.spec_set c s l)).register l (next_epoch (epochs_of s.register l) (Step.spec_set c s l)) (omega arith) (omega arith) (λ e y f. h l e y f) a.1 h ])
     (λ l k y b. elim (close_leaves s.register l k y b) [
@@ -115,7 +116,7 @@ follows c s e N h = register_kept c s e (λ n. Follows s.register n) (logs_follo
     (λ n q. logs_follow s.register n q h) N
 
 -- summaries stay
-pub summaries_stay : (c : Config) (s : State) (e : Event) → NamesOnce s → OnlyClosed s.register → (l k : ℕ) (y : Summary) → find k (epochs_of s.register l).summaries ≡ Some y → find k (epochs_of (Step.happens c s e).state.register l).summaries ≡ Some y
+pub summaries_stay : (c : Config) (s : State) (e : Move) → NamesOnce s → OnlyClosed s.register → (l k : ℕ) (y : Summary) → find k (epochs_of s.register l).summaries ≡ Some y → find k (epochs_of (Calm.moves c s e).state.register l).summaries ≡ Some y
 summaries_stay c s e N h = register_kept c s e (λ n. (l k : ℕ) (y : Summary) → find k (epochs_of s.register l).summaries ≡ Some y → find k (epochs_of n l).summaries ≡ Some y) (λ l k y f. f)
     (λ l g. elim (activate_leaves s.register l (Step.spec_set c s l)) [ inl a ↦ by_logs (activate s.register l (Step.spec_set c s l)).register a.0 | inr a ↦ by_put (activate s.register l (Step.spec_set c s l)).register l (next_epoch (epochs_of s.register l) (Step.spec_set c s l)) a.1 (λ k y f. f) ])
     (λ l k y b. elim (close_leaves s.register l k y b) [
@@ -197,7 +198,7 @@ activate_each r l p h = elim (activate_leaves r l p) [
   | inr a ↦ each_put r (activate r l p).register l (next_epoch (epochs_of r l) p) a.1 (next_each (epochs_of r l) p (h l)) h
 ]
 
-pub each_closed : (c : Config) (s : State) (e : Event) → NamesOnce s → EachClosed s.register → EachClosed (Step.happens c s e).state.register
+pub each_closed : (c : Config) (s : State) (e : Move) → NamesOnce s → EachClosed s.register → EachClosed (Calm.moves c s e).state.register
 each_closed c s e N h = register_kept c s e EachClosed h
     (λ l g. activate_each s.register l (Step.spec_set c s l) h)
     (λ l k y b. elim (close_leaves s.register l k y b) [
@@ -239,7 +240,7 @@ Reached r l e = (0 < e) × (e ≤ (epochs_of r l).epoch)
 abbrev pub SpecsStay : Register → Register → Type 0
 SpecsStay r n = (l e : ℕ) → Reached r l e → find e (epochs_of n l).specs ≡ find e (epochs_of r l).specs
 
-pub specs_stay : (c : Config) (s : State) (e : Event) → NamesOnce s → SpecsStay s.register (Step.happens c s e).state.register
+pub specs_stay : (c : Config) (s : State) (e : Move) → NamesOnce s → SpecsStay s.register (Calm.moves c s e).state.register
 specs_stay c s e N = register_kept c s e (λ n. SpecsStay s.register n) (λ l k h. refl)
     (λ l g. elim (activate_leaves s.register l (Step.spec_set c s l)) [
       | inl a ↦ by_logs (activate s.register l (Step.spec_set c s l)).register a.0

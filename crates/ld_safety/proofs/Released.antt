@@ -6,7 +6,6 @@ use Rattle.ld_table.specs.Named.{find_named}
 use Rattle.ld_lsn.specs.Number.{epoch_of, esn_of, numbered, epoch_end, home_epoch, is_epoch_end, last_esn}
 use Rattle.ld_config.specs.declared.config.Config.{Config}
 use Rattle.ld_config.specs.Bounds.{IsInBounds}
-use Rattle.ld_schedule.specs.declared.event.Event.{Event}
 use Rattle.ld_schedule.specs.declared.event.Event.TheVariants as events
 use Rattle.ld_transcript.specs.declared.line.Line.{Line}
 use Rattle.ld_transcript.specs.declared.line.Line.TheVariants as lines
@@ -15,7 +14,7 @@ use Rattle.ld_msg.specs.declared.msg.Msg.{Msg}
 use Rattle.ld_msg.specs.declared.msg.Body.{Body}
 use Rattle.ld_msg.specs.declared.msg.Body.TheVariants as bodies
 use Rattle.ld_msg.specs.Register.{Register, generation_of, epochs_in, lce_of}
-use Rattle.ld_msg.specs.Sequencer.{Sequencer, called, on_reply, on_retry, next_esn, released_of}
+use Rattle.ld_msg.specs.Sequencer.{Sequencer, called, on_reply, next_esn, released_of}
 use Rattle.ld_op.specs.declared.op.Op.{Op}
 use Rattle.ld_op.specs.declared.op.Op.TheVariants as ops
 use Rattle.ld_op.specs.Ticks.{Ticked, Cleans, Rebuilt, Asks, Nothing}
@@ -25,13 +24,13 @@ use Rattle.ld_machine.specs.State.{State, Done, start, finish, node_at, with_nod
 use Rattle.ld_machine.specs.Facts.{Happened, Writes, OfLog}
 use Rattle.ld_machine.specs.World.{World, In, begin}
 use Rattle.ld_machine.specs.Invariant.{ReleasesAcked, ReleasedAcked, OpenTrims, Acked, IsOpen, released_in}
-use Rattle.ld_machine.specs.Run.{Move, next_world, world_after, trace}
+use Rattle.ld_machine.specs.Run.{Move, after_step, world_after, trace}
 use Rattle.ld_machine.specs.Step as Step
 use Rattle.ld_safety.proofs.Lists.{Some_inj, not_none, not_both, only, cond_both}
-use Rattle.ld_safety.proofs.Traces.{Keeps, happened, later, beside_kept}
+use Rattle.ld_safety.proofs.Traces.{Keeps, step_happened, later, beside_kept}
 use Rattle.ld_safety.proofs.Steps.{writes_cases}
 use Rattle.ld_safety.proofs.Lines.{Group, OfNodes, OfNumbers, OfActs, OfTrims, OfSets, OfItems, AllOf, none_of, one_of, kept_of, format_of, acted_of, items_of, line_of}
-use Rattle.ld_safety.proofs.Events.{Cases, dispatch, Live, is_quiet, refreshed, loaded}
+use Rattle.ld_safety.proofs.Events.{retry_call, announced, Cases, dispatch, Live, is_quiet, refreshed, loaded}
 use Rattle.ld_safety.proofs.Base.{Base, counts_of}
 use Rattle.ld_safety.proofs.Given.{AnyEpoch, AnyShown, SmallGood, GivenEntry, entry_grows, of_log_grows, plan_given, plan_epoch}
 use Rattle.ld_safety.proofs.GivenSteps.{BaseGiven, append_given}
@@ -49,6 +48,8 @@ use Rattle.ld_safety.proofs.Appends.{own_epoch}
 use Rattle.ld_safety.proofs.Has as has
 use Rattle.ld_safety.proofs.Withheld.{told_in, told_entry}
 use Rattle.ld_safety.proofs.Carried.{message_whole}
+use Rattle.ld_machine.specs.Calm as Calm
+use Rattle.ld_machine.specs.Calm.{Takes}
 
 -- a released number covers numbers of its epoch that were acknowledged in lines
 abbrev pub ReleaseLines : List Happened → ℕ → ℕ → Type 0
@@ -61,7 +62,7 @@ abbrev AnySummary : ℕ → ℕ → Summary → Type 0
 AnySummary l e y = Unit {0}
 
 abbrev pub Releases : Config → List Happened → State → Type 0
-Releases c hs s = Carries c s (events.Flow 0) (GivenEntry hs) AnyTrim AnySummary AnyEpoch AnyShown (ReleaseLines hs) (GivenEntry hs) SmallGood s
+Releases c hs s = Carries c s (Takes (events.Flow 0)) (GivenEntry hs) AnyTrim AnySummary AnyEpoch AnyShown (ReleaseLines hs) (GivenEntry hs) SmallGood s
 
 releases_sound : (hs : List Happened) → carried.Sound (GivenEntry hs) AnyTrim AnySummary AnyEpoch AnyShown (ReleaseLines hs) (GivenEntry hs) SmallGood
 releases_sound hs = record { zero_trim = λ l. tt; place = λ l b n w g. g.place.above; reached = λ l b n w g. tt; closing_trim = λ l e y h. tt; zero_closed = λ l. tt; zero_released = λ l pos. absurd (omega arith); kept = λ l b n w g. g; zero_good = λ l e. omega arith; good_below = λ l e g h. h; whole = λ l b n w g. g.kept }
@@ -70,18 +71,18 @@ released_lines : (hs : List Happened) (q : Sequencer) → LinesFine hs q → nex
 released_lines hs q F small = cond_both (nat_lt (q.lce + 1) q.epoch) (epoch_end q.lce) (numbered q.epoch q.lng) (ReleaseLines hs q.log) (λ t pos. absurd (omega arith))
     (λ t pos n lo hi. subst (Acked hs q.log) (let v : numbered q.epoch (esn_of n) ≡ n = omega arith in v) (F.acked (esn_of n) (omega arith) (omega arith)))
 
-module _ (c : Config) (hs : List Happened) (w : World) (e : Event) (B : BaseGiven c hs w × Along c hs w) (C : Base c (hs ++ happened c w.state e ∷ []) (next_world c w e)) (L : AllLines (hs ++ happened c w.state e ∷ []) (next_world c w e)) (G : Releases c hs w.state) where
+module _ (c : Config) (hs : List Happened) (w : World) (e : Move) (B : BaseGiven c hs w × Along c hs w) (C : Base c (hs ++ step_happened c w.state e ∷ []) (after_step c w e)) (L : AllLines (hs ++ step_happened c w.state e ∷ []) (after_step c w e)) (G : Releases c hs w.state) where
   abbrev next : List Happened
-  next = hs ++ happened c w.state e ∷ []
+  next = hs ++ step_happened c w.state e ∷ []
 
   now : Carries c w.state e (GivenEntry next) AnyTrim AnySummary AnyEpoch AnyShown (ReleaseLines next) (GivenEntry next) SmallGood w.state
-  now = carries_grow (GivenEntry hs) AnyTrim AnySummary AnyEpoch AnyShown (ReleaseLines hs) (GivenEntry hs) SmallGood (GivenEntry next) AnyTrim AnySummary AnyEpoch AnyShown (ReleaseLines next) (GivenEntry next) SmallGood (entry_grows hs w.state.register e (Step.happens c w.state e)) (λ l t h. tt) (λ l k y h. tt) (λ l k h. tt) (λ l b x h. tt)
-      (λ l k h pos n lo hi. acked_grows hs w.state.register e (Step.happens c w.state e) l n (h pos n lo hi)) (entry_grows hs w.state.register e (Step.happens c w.state e)) (λ l k g h. h) c w.state e w.state G
+  now = carries_grow (GivenEntry hs) AnyTrim AnySummary AnyEpoch AnyShown (ReleaseLines hs) (GivenEntry hs) SmallGood (GivenEntry next) AnyTrim AnySummary AnyEpoch AnyShown (ReleaseLines next) (GivenEntry next) SmallGood (entry_grows hs w.state.register e (Calm.moves c w.state e)) (λ l t h. tt) (λ l k y h. tt) (λ l k h. tt) (λ l b x h. tt)
+      (λ l k h pos n lo hi. acked_grows hs w.state.register e (Calm.moves c w.state e) l n (h pos n lo hi)) (entry_grows hs w.state.register e (Calm.moves c w.state e)) (λ l k g h. h) c w.state e w.state G
 
-  released_now : (name : List ℕ) (q p : Sequencer) → Live w.state name q → find_named name (Step.happens c w.state e).state.sequencers ≡ Some p → ReleaseLines next q.log (released_of p)
+  released_now : (name : List ℕ) (q p : Sequencer) → Live w.state name q → find_named name (Calm.moves c w.state e).state.sequencers ≡ Some p → ReleaseLines next q.log (released_of p)
   unfolding finish
   released_now name q p v f = subst (λ l. ReleaseLines next l (released_of p)) ((acks_now c hs w e B.0.0 B.0.1 B.1 refl (follow c hs w e B.0.0 B.0.1 B.1).0 (stays c hs w e B.0.0 B.0.1 B.1) name p f).1 q v.named)
-      (released_lines next p (L name p f) (counts_of c next (next_world c w e) C name p f).small)
+      (released_lines next p (L name p f) (counts_of c next (after_step c w e) C name p f).small)
 
   release_sources : Sources c w.state e (GivenEntry next) AnyTrim AnySummary AnyEpoch AnyShown (ReleaseLines next) (GivenEntry next) SmallGood
   release_sources = record {
@@ -105,7 +106,7 @@ module _ (c : Config) (hs : List Happened) (w : World) (e : Event) (B : BaseGive
     released = released_now;
   }
 
-  releases_step : Releases c (hs ++ happened c w.state e ∷ []) (next_world c w e).state
+  releases_step : Releases c (hs ++ step_happened c w.state e ∷ []) (after_step c w e).state
   releases_step = carried_on c w.state e (GivenEntry next) AnyTrim AnySummary AnyEpoch AnyShown (ReleaseLines next) (GivenEntry next) SmallGood B.0.0.0.0 release_sources
 
 start_releases : (c : Config) → Releases c [] (start c)
@@ -117,7 +118,7 @@ record TrimTold (s : State) (name : List ℕ) (t : ℕ) : Type 0 where
   named : find_named name s.sequencers ≡ Some sequencer
   released : t ≤ released_of sequencer
 
-module _ (c : Config) (s : State) (e : Event) where
+module _ (c : Config) (s : State) (e : Move) where
   Trims : Done → Type 0
   Trims d = (name : List ℕ) (t : ℕ) → In (lines.Trimmed name t) d.lines → TrimTold s name t
 
@@ -152,9 +153,9 @@ module _ (c : Config) (s : State) (e : Event) where
 
   trim_cases : Cases c s e (λ d m. Trims d)
   trim_cases = record {
-    still = λ f i. others OfNodes _ (λ h. cc) (none_of OfNodes);
+    still = λ f older i. others OfNodes _ (λ h. cc) (none_of OfNodes);
     says = λ x q. quiets _ (quiet_one x q);
-    node_hears = λ f n m i t v o. handled f (Step.releases (node_at s n) m.log m.body) n m (Step.node_handles n (node_at s n) m).op (Step.node_handles n (node_at s n) m).answer;
+    node_hears = λ f older n m i t v o. handled f (Step.releases (node_at s n) m.log m.body) n m (Step.node_handles n (node_at s n) m).op (Step.node_handles n (node_at s n) m).answer;
     loads = λ n ls q a o. quiets _ q;
     draw_fails = λ n a. others OfNodes _ (λ h. cc) (one_of (lines.NodeRefusedRegister n));
     formats = λ n r g a v i. others OfNodes _ (λ h. cc) (kept_of n (Step.format_lines c n r) (keep_end (node_at (with_register (loaded s n) r) n) (ops.Format (generation_of r n) (epochs_in r.logs))) (format_of c n r));
@@ -164,15 +165,15 @@ module _ (c : Config) (s : State) (e : Event) where
     faults = λ n f o. others OfNodes _ (λ h. cc) (none_of OfNodes);
     sets = λ l r x set h. others OfSets _ (λ q. cc) (one_of (lines.Set l r x set));
     arms = λ k done o. others OfNodes _ (λ h. cc) (none_of OfNodes);
-    hears = λ f name q m i t l v o. others OfActs _ (λ h. cc) (acted_of name q (called (looks_at c s.register q.log) s.register (on_reply (looks_at c s.register q.log) q (Step.sender_node m.from) m.body) (on_reply (looks_at c s.register q.log) q (Step.sender_node m.from) m.body).tries).acts);
-    retries = λ name q v o. others OfActs _ (λ h. cc) (acted_of name q (called (looks_at c s.register q.log) s.register (on_retry (looks_at c s.register q.log) q) (on_retry (looks_at c s.register q.log) q).tries).acts);
+    hears = λ f older name q m i t l v o. others OfActs _ (λ h. cc) (acted_of name q (called (looks_at c s.register q.log) s.register (on_reply (looks_at c s.register q.log) q (Step.sender_node m.from) m.body) (on_reply (looks_at c s.register q.log) q (Step.sender_node m.from) m.body).tries).acts);
+    retries = λ again name q v o. others OfActs _ (λ h. cc) (acted_of name q (announced again (retry_call c s q)).acts);
     appends = λ name q p v a i. others OfNumbers _ (λ h. cc) (one_of (lines.Appended name _));
     trims = λ name q t v b. issues _ name q t v b refl;
     drops = λ name q v o. others OfNodes _ (λ h. cc) (none_of OfNodes);
     activates = λ name l r g n i x. others OfNumbers _ (λ h. cc) (one_of (lines.Active name _));
     swaps = λ n m l x r q i. quiets _ (quiet_one x q);
     activate_fails = λ name l x g q. quiets _ (quiet_one x q);
-    answers = λ f name d m i t v o. others OfItems _ (λ h. cc) (items_of _ name _ _);
+    answers = λ f older name d m i t v o. others OfItems _ (λ h. cc) (items_of _ name _ _);
     polls = λ name d v o. others OfNodes _ (λ h. cc) (none_of OfNodes);
     opens = λ style name l from until o x. others OfNodes _ (λ h. cc) (none_of OfNodes);
   }
@@ -192,23 +193,23 @@ home_before t x h = cond_both (is_epoch_end t) (epoch_of t - 1) (epoch_of t) (λ
 abbrev pub IssuedFine : List Happened → World → Type 0
 IssuedFine hs w = (name : List ℕ) (t k : ℕ) → Writes hs k (lines.Trimmed name t) → (l : ℕ) × OfLog hs l name × (IsOpen w l (home_epoch t) → (n : ℕ) → numbered (home_epoch t) 1 ≤ n → n ≤ t → Acked hs l n)
 
-module _ (c : Config) (hs : List Happened) (w : World) (e : Event) (B : BaseGiven c hs w × Along c hs w) (D : AllLines hs w) where
+module _ (c : Config) (hs : List Happened) (w : World) (e : Move) (B : BaseGiven c hs w × Along c hs w) (D : AllLines hs w) where
   covers : (k : Register) (t : ℕ) (q : Sequencer) → LinesFine hs q → next_esn q ≤ last_esn → q.lce ≤ lce_of k q.log → t ≤ released_of q → lce_of k q.log < home_epoch t → (n : ℕ) → numbered (home_epoch t) 1 ≤ n → n ≤ t → Acked hs q.log n
   covers k t q F small low = cond_both (nat_lt (q.lce + 1) q.epoch) (epoch_end q.lce) (numbered q.epoch q.lng) (λ r. t ≤ r → lce_of k q.log < home_epoch t → (n : ℕ) → numbered (home_epoch t) 1 ≤ n → n ≤ t → Acked hs q.log n)
       (λ u b o n lo hi. absurd (let z = home_before t q.lce b in omega arith))
       (λ u b o n lo hi. let z = ltb-false _ _ u in let y = home_most t in subst (Acked hs q.log) (let v : numbered q.epoch (esn_of n) ≡ n = omega arith in v) (F.acked (esn_of n) (omega arith) (omega arith)))
 
-  issued_step : IssuedFine hs w → IssuedFine (hs ++ happened c w.state e ∷ []) (next_world c w e)
+  issued_step : IssuedFine hs w → IssuedFine (hs ++ step_happened c w.state e ∷ []) (after_step c w e)
   unfolding finish Trims
-  issued_step I name t k x = let up = (follow c hs w e B.0.0 B.0.1 B.1).0 in elim (writes_cases hs (happened c w.state e) k _ x) [
-    | inl a ↦ let z = I name t k a in (z.0, of_log_grows hs w.state.register e (Step.happens c w.state e) z.0 name z.1, λ o n lo hi. acked_grows hs w.state.register e (Step.happens c w.state e) z.0 n (z.2 (let u = (up z.0).1 in omega arith) n lo hi))
+  issued_step I name t k x = let up = (follow c hs w e B.0.0 B.0.1 B.1).0 in elim (writes_cases hs (step_happened c w.state e) k _ x) [
+    | inl a ↦ let z = I name t k a in (z.0, of_log_grows hs w.state.register e (Calm.moves c w.state e) z.0 name z.1, λ o n lo hi. acked_grows hs w.state.register e (Calm.moves c w.state e) z.0 n (z.2 (let u = (up z.0).1 in omega arith) n lo hi))
     | inr a ↦
-        let z = dispatch c w.state e (λ d m. Trims c w.state e d) B.0.0.0.0 (trim_cases c w.state e) name t (line_of (Step.happens c w.state e) (lines.Trimmed name t) (λ h. cc) a.1) in
+        let z = dispatch c w.state e (λ d m. Trims c w.state e d) B.0.0.0.0 (trim_cases c w.state e) name t (line_of (Calm.moves c w.state e) (lines.Trimmed name t) (λ h. cc) a.1) in
         let q = z.sequencer in
         let u = counts_of c hs w B.0.0 name q z.named in (
           q.log,
-          of_log_grows hs w.state.register e (Step.happens c w.state e) q.log name u.known,
-          λ o n lo hi. acked_grows hs w.state.register e (Step.happens c w.state e) q.log n
+          of_log_grows hs w.state.register e (Calm.moves c w.state e) q.log name u.known,
+          λ o n lo hi. acked_grows hs w.state.register e (Calm.moves c w.state e) q.log n
               (covers w.state.register t q (D name q z.named) u.small (B.1.acks name q z.named).closed z.released (let v = (up q.log).1 in omega arith) n lo hi),
         )
   ]

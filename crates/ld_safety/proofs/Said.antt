@@ -10,7 +10,6 @@ use Rattle.ld_table.specs.Table.{find}
 use Rattle.ld_table.specs.Named.{find_named}
 use Rattle.ld_lsn.specs.Number.{epoch_of, esn_of, numbered, last_esn, home_epoch, home_esn}
 use Rattle.ld_config.specs.declared.config.Config.{Config}
-use Rattle.ld_schedule.specs.declared.event.Event.{Event}
 use Rattle.ld_schedule.specs.declared.event.Event.TheVariants as events
 use Rattle.ld_msg.specs.declared.msg.What.{What}
 use Rattle.ld_msg.specs.declared.msg.What.TheVariants.{Rec}
@@ -24,11 +23,11 @@ use Rattle.ld_op.specs.Ticks.{is_missing, as_closed, ballot_of}
 use Rattle.ld_machine.specs.State.{State, Done, node_at}
 use Rattle.ld_machine.specs.Facts.{Happened}
 use Rattle.ld_machine.specs.World.{World, Made, In, made_on}
-use Rattle.ld_machine.specs.Run.{next_world}
+use Rattle.ld_machine.specs.Run.{after_step}
 use Rattle.ld_machine.specs.Step as Step
 use Rattle.ld_safety.proofs.Lists.{In_right, cond_both, Some_inj}
 use Rattle.ld_safety.proofs.Members.{find_in}
-use Rattle.ld_safety.proofs.Traces.{happened}
+use Rattle.ld_safety.proofs.Traces.{step_happened}
 use Rattle.ld_safety.proofs.Steps.{told}
 use Rattle.ld_safety.proofs.Events.{Live}
 use Rattle.ld_safety.proofs.RegisterSteps.{close_granted, epochs_put, epochs_same}
@@ -48,6 +47,8 @@ use Rattle.ld_safety.proofs.Closings.{OfSummaries, summaries_after}
 use Rattle.ld_safety.proofs.SequencerSteps.{Ending, OfStored, ended_by}
 use Rattle.ld_safety.proofs.Withheld.{told_entry}
 use Rattle.ld_safety.proofs.Carried.{message_whole}
+use Rattle.ld_machine.specs.Calm as Calm
+use Rattle.ld_machine.specs.Calm.{Move, Takes, event_of}
 
 pub record Said (hs : List Happened) (made : List Made) (r : Register) (l b n : ℕ) (x : What) : Type 0 where
   pub given : GivenEntry hs l b n x
@@ -61,7 +62,7 @@ pub record SaidHere (hs : List Happened) (made : List Made) (r : Register) (l b 
   pub says : Says hs made l b n x ⊎ (KnownGood hs r l b n x ⊎ OfLoss made r l b n x)
 
 abbrev pub AllSaid : Config → List Happened → List Made → Register → State → Type 0
-AllSaid c hs made r s = Carries c s (events.Flow 0) (Said hs made r) (TrimFine c hs s.network.sent r) (CloseFine c hs made s.network.sent r) (Reached r) (ShowFine c hs made s.network.sent r) (ReleaseFine c hs s.network.sent r) (SaidHere hs made r) (LngFine c hs s.network.sent r) s
+AllSaid c hs made r s = Carries c s (Takes (events.Flow 0)) (Said hs made r) (TrimFine c hs s.network.sent r) (CloseFine c hs made s.network.sent r) (Reached r) (ShowFine c hs made s.network.sent r) (ReleaseFine c hs s.network.sent r) (SaidHere hs made r) (LngFine c hs s.network.sent r) s
 
 -- ---- what grows ----
 -- a last known good place lies below the last place, where no append has its number
@@ -74,36 +75,36 @@ good_low c hs sent r l e g h = elim (cases_order g last_esn) [
   last : last_esn ≤ g → ⊥
   last q = let z = (h (numbered e last_esn) (omega arith) (omega arith) (omega arith)).below in omega arith
 
-pub says_grows : (hs : List Happened) (old : Register) (e : Event) (d : Done) (made more : List Made) (l b n : ℕ) (x : What) → Says hs made l b n x → Says (hs ++ told old e d ∷ []) (more ++ made) l b n x
+pub says_grows : (hs : List Happened) (old : Register) (e : Move) (d : Done) (made more : List Made) (l b n : ℕ) (x : What) → Says hs made l b n x → Says (hs ++ told old e d ∷ []) (more ++ made) l b n x
 says_grows hs old e d made more l b n x (inl s) = inl (record { own = s.own; payload = s.payload; is = s.is; appended = (s.appended.0, appends_grows hs old e d l n s.appended.0 s.payload s.appended.1) })
 says_grows hs old e d made more l b n x (inr s) = inr (record { later = s.later; basis = s.basis; planned = In_right _ more made s.planned; item = s.item })
 
-pub said_grows : (hs : List Happened) (e : Event) (d : Done) (made more : List Made) (r k : Register) → Up r k → (l b n : ℕ) (x : What) → Said hs made r l b n x → Said (hs ++ told r e d ∷ []) (more ++ made) k l b n x
+pub said_grows : (hs : List Happened) (e : Move) (d : Done) (made more : List Made) (r k : Register) → Up r k → (l b n : ℕ) (x : What) → Said hs made r l b n x → Said (hs ++ told r e d ∷ []) (more ++ made) k l b n x
 said_grows hs e d made more r k u l b n x s = let v = u l in let a = v.0 in let z = v.1 in let q = s.reached in record {
   given = entry_grows hs r e d l b n x s.given;
   reached = (q.0, let y = q.1 in omega arith);
   says = says_grows hs r e d made more l b n x s.says;
 }
 
-pub here_grows : (c : Config) (hs : List Happened) (e : Event) (d : Done) (made more : List Made) (sent after : List Msg) (r k : Register) (into : (m : Msg) → In m sent → In m after) → Up r k → Stays c r k → (l b n : ℕ) (x : What) → SaidHere hs made r l b n x → SaidHere (hs ++ told r e d ∷ []) (more ++ made) k l b n x
+pub here_grows : (c : Config) (hs : List Happened) (e : Move) (d : Done) (made more : List Made) (sent after : List Msg) (r k : Register) (into : (m : Msg) → In m sent → In m after) → Up r k → Stays c r k → (l b n : ℕ) (x : What) → SaidHere hs made r l b n x → SaidHere (hs ++ told r e d ∷ []) (more ++ made) k l b n x
 here_grows c hs e d made more sent after r k into u s l b n x h = let v = u l in let a = v.0 in let z = v.1 in let q = h.reached in record {
   given = entry_grows hs r e d l b n x h.given;
   reached = (q.0, let y = q.1 in omega arith);
   says = elim h.says [ inl p ↦ inl (says_grows hs r e d made more l b n x p) | inr (inl p) ↦ inr (inl (known_good_grows c hs e d made more sent after r k into u s l b n x p)) | inr (inr p) ↦ inr (inr (of_loss_grows c hs e d made more sent after r k into u s l b n x p)) ];
 }
 
-module _ (c : Config) (hs : List Happened) (w : World) (e : Event) (B : Base c hs w) (G : Given c hs w.state) (O : OnlyClosed w.state.register) (A : AllSaid c hs w.made w.state.register w.state) where
+module _ (c : Config) (hs : List Happened) (w : World) (e : Move) (B : Base c hs w) (G : Given c hs w.state) (O : OnlyClosed w.state.register) (A : AllSaid c hs w.made w.state.register w.state) where
   abbrev pub next : List Happened
-  next = hs ++ happened c w.state e ∷ []
+  next = hs ++ step_happened c w.state e ∷ []
 
   abbrev pub plans_now : List Made
-  plans_now = made_on c w.state e ++ w.made
+  plans_now = made_on c w.state (event_of e) ++ w.made
 
   abbrev pub reg : Register
-  reg = (Step.happens c w.state e).state.register
+  reg = (Calm.moves c w.state e).state.register
 
   abbrev pub after : List Msg
-  after = (next_world c w e).state.network.sent
+  after = (after_step c w e).state.network.sent
 
   abbrev pub SaidNow : ℕ → ℕ → ℕ → What → Type 0
   SaidNow = Said next plans_now reg
@@ -135,27 +136,27 @@ module _ (c : Config) (hs : List Happened) (w : World) (e : Event) (B : Base c h
   -- what the step is given: summaries and messages stay, what is released before and after it, what is known good, what a clean node shows, and what a recovery closes with
   module _ (stays : Stays c w.state.register reg) (into : (m : Msg) → In m w.state.network.sent → In m after)
       (released_before : (name : List ℕ) (q : Sequencer) → find_named name w.state.sequencers ≡ Some q → ReleaseFine c hs w.state.network.sent w.state.register q.log (released_of q))
-      (released_after : (name : List ℕ) (q p : Sequencer) → Live w.state name q → find_named name (Step.happens c w.state e).state.sequencers ≡ Some p → ReleaseNow q.log (released_of p))
+      (released_after : (name : List ℕ) (q p : Sequencer) → Live w.state name q → find_named name (Calm.moves c w.state e).state.sequencers ≡ Some p → ReleaseNow q.log (released_of p))
       (good_before : (name : List ℕ) (q : Sequencer) → find_named name w.state.sequencers ≡ Some q → LngFine c hs w.state.network.sent w.state.register q.log q.epoch q.lng)
       (clean_shown : (n l : ℕ) → (from : ℕ) (y : Summary) (k : ℕ) (x : Entry) → (log_of (node_at w.state n).plain l).trim < from → summary_at (log_of (node_at w.state n).plain l) (home_epoch from) ≡ Some y → home_esn from < y.end → is_lost (log_of (node_at w.state n).plain l) (home_epoch from) ≡ false
       → In (k, x) (log_of (node_at w.state n).plain l).entries → from ≤ x.number → x.number ≤ numbered (home_epoch from) (y.end - 1) → is_bridge x.what ≡ false → ClosedEntry c hs w.made w.state.network.sent w.state.register l x)
       (closing : (name : List ℕ) (q : Sequencer) (v : Recovery) (y : Summary) (short : Bool) → Live w.state name q → q.recovery ≡ Some v → Ending q (HeardOf w.state q) v y short → lce_of w.state.register q.log + 1 ≡ v.epoch → Summarized c hs w.made w.state.network.sent w.state.register q.log v.epoch y)
-      (fresh : FreshLosses (made_on c w.state e) w.state.register) where
+      (fresh : FreshLosses (made_on c w.state (event_of e)) w.state.register) where
     G1 : (l b n : ℕ) (x : What) → Said hs w.made w.state.register l b n x → SaidNow l b n x
-    G1 = said_grows hs e (Step.happens c w.state e) w.made (made_on c w.state e) w.state.register reg up
+    G1 = said_grows hs e (Calm.moves c w.state e) w.made (made_on c w.state (event_of e)) w.state.register reg up
 
     grow_good : (l k g : ℕ) → LngFine c hs w.state.network.sent w.state.register l k g → GoodNow l k g
-    grow_good = lng_fine_grows c hs e (Step.happens c w.state e) w.made (made_on c w.state e) w.state.network.sent after w.state.register reg into up stays
+    grow_good = lng_fine_grows c hs e (Calm.moves c w.state e) w.made (made_on c w.state (event_of e)) w.state.network.sent after w.state.register reg into up stays
 
     now : Carries c w.state e SaidNow TrimNow CloseNow ReachedNow ShowNow ReleaseNow HereNow GoodNow w.state
     now = carries_grow (Said hs w.made w.state.register) (TrimFine c hs w.state.network.sent w.state.register) (CloseFine c hs w.made w.state.network.sent w.state.register) (Reached w.state.register) (ShowFine c hs w.made w.state.network.sent w.state.register) (ReleaseFine c hs w.state.network.sent w.state.register) (SaidHere hs w.made w.state.register) (LngFine c hs w.state.network.sent w.state.register)
         SaidNow TrimNow CloseNow ReachedNow ShowNow ReleaseNow HereNow GoodNow G1
-        (trim_fine_grows c hs e (Step.happens c w.state e) w.made (made_on c w.state e) w.state.network.sent after w.state.register reg into up stays)
-        (close_fine_grows c hs e (Step.happens c w.state e) w.made (made_on c w.state e) w.state.network.sent after w.state.register reg into up stays)
+        (trim_fine_grows c hs e (Calm.moves c w.state e) w.made (made_on c w.state (event_of e)) w.state.network.sent after w.state.register reg into up stays)
+        (close_fine_grows c hs e (Calm.moves c w.state e) w.made (made_on c w.state (event_of e)) w.state.network.sent after w.state.register reg into up stays)
         (λ l k h. (h.0, let z = (up l).0 in let y = h.1 in omega arith))
-        (show_grows c hs e (Step.happens c w.state e) w.made (made_on c w.state e) w.state.network.sent after w.state.register reg into up stays fresh)
-        (release_grows c hs e (Step.happens c w.state e) w.made (made_on c w.state e) w.state.network.sent after w.state.register reg into up stays)
-        (here_grows c hs e (Step.happens c w.state e) w.made (made_on c w.state e) w.state.network.sent after w.state.register reg into up stays) grow_good c w.state e w.state A
+        (show_grows c hs e (Calm.moves c w.state e) w.made (made_on c w.state (event_of e)) w.state.network.sent after w.state.register reg into up stays fresh)
+        (release_grows c hs e (Calm.moves c w.state e) w.made (made_on c w.state (event_of e)) w.state.network.sent after w.state.register reg into up stays)
+        (here_grows c hs e (Calm.moves c w.state e) w.made (made_on c w.state (event_of e)) w.state.network.sent after w.state.register reg into up stays) grow_good c w.state e w.state A
 
     sound : carried.Sound SaidNow TrimNow CloseNow ReachedNow ShowNow ReleaseNow HereNow GoodNow
     sound = record {
@@ -207,7 +208,7 @@ module _ (c : Config) (hs : List Happened) (w : World) (e : Event) (B : Base c h
 
     trim_said : (name : List ℕ) (q : Sequencer) (point : ℕ) → Live w.state name q → point ≤ released_of q → TrimNow q.log point
     trim_said name q point v b n le pos o = let r = released_before name q v.named in let u = (up q.log).1 in let k = r.closed in
-        acked_grows c hs e (Step.happens c w.state e) w.made (made_on c w.state e) w.state.network.sent after w.state.register reg into up stays q.log n (r.acked n (omega arith) pos (omega arith))
+        acked_grows c hs e (Calm.moves c w.state e) w.made (made_on c w.state (event_of e)) w.state.network.sent after w.state.register reg into up stays q.log n (r.acked n (omega arith) pos (omega arith))
 
     stage_of : (name : List ℕ) (q : Sequencer) (v : Recovery) (g : Stage) → find_named name w.state.sequencers ≡ Some q → q.recovery ≡ Some v → v.stage ≡ g → carried.StageOk SaidNow TrimNow CloseNow ReachedNow ShowNow ReleaseNow HereNow GoodNow q.log q.epoch v.epoch g
     stage_of name q v g f r k = subst (carried.StageOk SaidNow TrimNow CloseNow ReachedNow ShowNow ReleaseNow HereNow GoodNow q.log q.epoch v.epoch) k (subst (carried.RecoveryOk SaidNow TrimNow CloseNow ReachedNow ShowNow ReleaseNow HereNow GoodNow q.log q.epoch) r (now.sequencers name q f).recovery).1
@@ -228,7 +229,7 @@ module _ (c : Config) (hs : List Happened) (w : World) (e : Event) (B : Base c h
               found_so = ap (λ (x : Epochs). find v.epoch x.summaries) eq ∙ find-put_same v.epoch v.epoch y (epochs_of w.state.register q.log).summaries refl;
               positive = omega arith;
               low = omega arith;
-              plan = summarized_grows c hs e (Step.happens c w.state e) w.made (made_on c w.state e) w.state.network.sent after w.state.register reg into up stays q.log v.epoch y (closing name q v y short live r t h);
+              plan = summarized_grows c hs e (Calm.moves c w.state e) w.made (made_on c w.state (event_of e)) w.state.network.sent after w.state.register reg into up stays q.log v.epoch y (closing name q v y short live r t h);
             }),
           )
       | inr a ↦ absurd (a.0 refl)
@@ -263,16 +264,16 @@ module _ (c : Config) (hs : List Happened) (w : World) (e : Event) (B : Base c h
     Came : ℕ → ℕ → Summary → Type 0
     Came l k y = (find k (epochs_of w.state.register l).summaries ≡ Some y) ⊎ ((name : List ℕ) × (q : Sequencer) × (v : Recovery) × (short : Bool) × Live w.state name q × (q.recovery ≡ Some v) × Ending q (HeardOf w.state q) v y short × (lce_of w.state.register q.log + 1 ≡ v.epoch) × (l ≡ q.log) × (k ≡ v.epoch))
 
-    came : OfSummaries Came (Step.happens c w.state e).state.register
+    came : OfSummaries Came (Calm.moves c w.state e).state.register
     unfolding Came
     came = summaries_after c w.state e Came (λ l k y f. inl f) (λ name q v y short live r t h o. inr (name, q, v, short, live, r, t, h, refl, refl)) B.0.0
 
-    register_now : carried.RegisterOk SaidNow TrimNow CloseNow ReachedNow ShowNow ReleaseNow HereNow GoodNow (Step.happens c w.state e).state.register
+    register_now : carried.RegisterOk SaidNow TrimNow CloseNow ReachedNow ShowNow ReleaseNow HereNow GoodNow (Calm.moves c w.state e).state.register
     unfolding Came
     register_now l k y f = elim (came l k y f) [
       | inl a ↦ now.register l k y a
       | inr (name, q, v, short, live, r, t, h, il, ik) ↦
-          let plan = summarized_grows c hs e (Step.happens c w.state e) w.made (made_on c w.state e) w.state.network.sent after w.state.register reg into up stays q.log v.epoch y (closing name q v y short live r t h) in (
+          let plan = summarized_grows c hs e (Calm.moves c w.state e) w.made (made_on c w.state (event_of e)) w.state.network.sent after w.state.register reg into up stays q.log v.epoch y (closing name q v y short live r t h) in (
             subst (λ z. TrimNow z y.trim) (sym il) (closing_trims name q v y short live.named r t),
             inr (record {
               found_so = f;
@@ -301,7 +302,7 @@ module _ (c : Config) (hs : List Happened) (w : World) (e : Event) (B : Base c h
           let y = subst (carried.BodyOk SaidNow TrimNow CloseNow ReachedNow ShowNow ReleaseNow HereNow GoodNow m.log m.from) b z in
           refill_said n m.log x (y.0.1 x p) (y.0.0 x p) k (missing_clean (log_of (node_at w.state n).plain m.log) x.number k);
       shows = λ n l v. record {
-        clean = λ from y k x a b d f i lo hi o. show_grows c hs e (Step.happens c w.state e) w.made (made_on c w.state e) w.state.network.sent after w.state.register reg into up stays fresh l true x (clean_shown n l from y k x a b d f i lo hi o);
+        clean = λ from y k x a b d f i lo hi o. show_grows c hs e (Calm.moves c w.state e) w.made (made_on c w.state (event_of e)) w.state.network.sent after w.state.register reg into up stays fresh l true x (clean_shown n l from y k x a b d f i lo hi o);
         open_still = λ from k x h i lo hi. open_shown n l from k x h i lo hi;
       };
       good = λ name q f. grow_good q.log q.epoch q.lng (good_before name q f);
@@ -310,5 +311,5 @@ module _ (c : Config) (hs : List Happened) (w : World) (e : Event) (B : Base c h
       released = released_after;
     }
 
-    pub said_step : AllSaid c next plans_now reg (next_world c w e).state
+    pub said_step : AllSaid c next plans_now reg (after_step c w e).state
     said_step = carried_on c w.state e SaidNow TrimNow CloseNow ReachedNow ShowNow ReleaseNow HereNow GoodNow B.0.0 sources

@@ -1,7 +1,6 @@
 -- What comes to sequencers comes from nodes.
 use Rattle.std.proofs.Common.{◌≡◌, ℕ, inl, inr, refl, sym, ap, subst, cond, List, [], Option, Some, None}
 use Rattle.ld_config.specs.declared.config.Config.{Config}
-use Rattle.ld_schedule.specs.declared.event.Event.{Event}
 use Rattle.ld_msg.specs.declared.msg.Who.{Who}
 use Rattle.ld_msg.specs.declared.msg.Who.TheVariants as whos
 use Rattle.ld_msg.specs.declared.msg.Msg.{Msg}
@@ -15,6 +14,7 @@ use Rattle.ld_machine.specs.World.{In}
 use Rattle.ld_machine.specs.Step as Step
 use Rattle.ld_safety.proofs.Events.{Cases, refreshed}
 use Rattle.ld_safety.proofs.Sent.{to_nodes}
+use Rattle.ld_machine.specs.Calm.{Move}
 
 abbrev pub AnswersFrom : List Msg → Type 0
 AnswersFrom ms = (m : Msg) (b : ℕ) → In m ms → m.to ≡ whos.Sequencer b → m.from ≡ whos.Node (Step.sender_node m.from)
@@ -36,11 +36,11 @@ if_written DiskFailed ms h = none_from
 if_written Crashed ms h = none_from
 if_written JournalFull ms h = none_from
 
-pub sender_cases : (c : Config) (s : State) (e : Event) → Cases c s e (λ d m. AnswersFrom d.sends)
+pub sender_cases : (c : Config) (s : State) (e : Move) → Cases c s e (λ d m. AnswersFrom d.sends)
 sender_cases c s e = record {
-  still = λ f i. none_from;
+  still = λ f older i. none_from;
   says = λ x q. none_from;
-  node_hears = λ f n m i t v o. handled f n m (Step.node_handles n (node_at s n) m).op (Step.node_handles n (node_at s n) m).answer;
+  node_hears = λ f older n m i t v o. handled f n m (Step.node_handles n (node_at s n) m).op (Step.node_handles n (node_at s n) m).answer;
   loads = λ n ls q b o. none_from;
   draw_fails = λ n b. none_from;
   formats = λ n r g b v i. if_written _ [] (none_from);
@@ -50,15 +50,15 @@ sender_cases c s e = record {
   faults = λ n f o. none_from;
   sets = λ l r x set g. none_from;
   arms = λ k done o. none_from;
-  hears = λ f name q m i t l v o. posted_from (whos.Sequencer q.epoch) q.log _;
-  retries = λ name q v o. posted_from (whos.Sequencer q.epoch) q.log _;
+  hears = λ f older name q m i t l v o. posted_from (whos.Sequencer q.epoch) q.log _;
+  retries = λ again name q v o. posted_from (whos.Sequencer q.epoch) q.log _;
   appends = λ name q p v a i. posted_from (whos.Sequencer q.epoch) q.log _;
   trims = λ name q t v b. posted_from (whos.Sequencer q.epoch) q.log _;
   drops = λ name q v o. none_from;
   activates = λ name l r g n i x. posted_from (whos.Sequencer _) l _;
   swaps = λ n m l x r q i. none_from;
   activate_fails = λ name l x g q. none_from;
-  answers = λ f name d m i t v o. posted_from (whos.Reader _) _ _;
+  answers = λ f older name d m i t v o. posted_from (whos.Reader _) _ _;
   polls = λ name d v o. posted_from (whos.Reader d.number) d.log _;
   opens = λ style name l from until o x. none_from;
 } where

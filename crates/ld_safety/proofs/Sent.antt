@@ -4,7 +4,6 @@ use Rattle.std.specs.Option.{unwrap_or}
 use Rattle.ld_table.proofs.Laws.{find-put_same}
 use Rattle.ld_lsn.specs.Number.{epoch_of}
 use Rattle.ld_config.specs.declared.config.Config.{Config}
-use Rattle.ld_schedule.specs.declared.event.Event.{Event}
 use Rattle.ld_msg.specs.declared.msg.Entry.{Entry}
 use Rattle.ld_msg.specs.declared.msg.Who.{Who}
 use Rattle.ld_msg.specs.declared.msg.Who.TheVariants as whos
@@ -39,6 +38,8 @@ use Rattle.ld_safety.proofs.NodeSteps.{Served}
 use Rattle.ld_safety.proofs.HoldKept.{NodeHolds, CutHolds}
 use Rattle.ld_safety.proofs.CarriedSteps.{Carries}
 use Rattle.ld_safety.proofs.Sends.{StoredIn, PageIn, after, Answered, answered_in, written}
+use Rattle.ld_machine.specs.Calm as Calm
+use Rattle.ld_machine.specs.Calm.{Move}
 
 -- what a message says of the one plain state of its node
 pub record Allowed (x : Node) : Type 0 where
@@ -103,7 +104,7 @@ if_written t JournalFull ms h = none_fine t
 node_here : (t : State) (n : ℕ) (x : Node) → node_at (with_node t n x) n ≡ x
 node_here t n x = ap (λ (o : Option Node). unwrap_or o new_node) (find-put_same n n x t.nodes refl)
 
-module _ (c : Config) (s : State) (e : Event) (hs : List Happened) (made : List worlds.Made) (r : Register) (S : Carries c s e (Said hs made r) (TrimFine c hs s.network.sent r) (CloseFine c hs made s.network.sent r) (Reached r) (ShowFine c hs made s.network.sent r) (ReleaseFine c hs s.network.sent r) (SaidHere hs made r) (LngFine c hs s.network.sent r) s)
+module _ (c : Config) (s : State) (e : Move) (hs : List Happened) (made : List worlds.Made) (r : Register) (S : Carries c s e (Said hs made r) (TrimFine c hs s.network.sent r) (CloseFine c hs made s.network.sent r) (Reached r) (ShowFine c hs made s.network.sent r) (ReleaseFine c hs s.network.sent r) (SaidHere hs made r) (LngFine c hs s.network.sent r) s)
     (H : (y : ℕ) → NodeHolds made s.network.sent y (node_at s y)) (U : (y : ℕ) → UpFine (node_at s y)) where
   Result : Done → Type 0
   Result d = SendsFine d.state d.sends
@@ -150,9 +151,9 @@ module _ (c : Config) (s : State) (e : Event) (hs : List Happened) (made : List 
   pub sends_cases : Cases c s e (λ d m. SendsFine d.state d.sends)
   unfolding Result
   sends_cases = record {
-    still = λ f i. none_fine _;
+    still = λ f older i. none_fine _;
     says = λ x q. none_fine _;
-    node_hears = λ f n m i t v o. node_message f n m i v;
+    node_hears = λ f older n m i t v o. node_message f n m i v;
     loads = λ n ls q b o. none_fine _;
     draw_fails = λ n b. none_fine _;
     formats = λ n k g b v i. empty_if n _ (keep_end (node_at (with_register (loaded s n) k) n) (ops.Format (generation_of k n) (epochs_in k.logs)));
@@ -162,25 +163,25 @@ module _ (c : Config) (s : State) (e : Event) (hs : List Happened) (made : List 
     faults = λ n f o. none_fine _;
     sets = λ l r x set h. none_fine _;
     arms = λ k done o. none_fine _;
-    hears = λ f name q m i t l v o. posted_fine _ (whos.Sequencer q.epoch) q.log _;
-    retries = λ name q v o. posted_fine _ (whos.Sequencer q.epoch) q.log _;
+    hears = λ f older name q m i t l v o. posted_fine _ (whos.Sequencer q.epoch) q.log _;
+    retries = λ again name q v o. posted_fine _ (whos.Sequencer q.epoch) q.log _;
     appends = λ name q p v a i. posted_fine _ (whos.Sequencer q.epoch) q.log _;
     trims = λ name q t v b. posted_fine _ (whos.Sequencer q.epoch) q.log _;
     drops = λ name q v o. none_fine _;
     activates = λ name l k g n i x. posted_fine _ (whos.Sequencer _) l _;
     swaps = λ n m l x r q i. none_fine _;
     activate_fails = λ name l x g q. none_fine _;
-    answers = λ f name d m i t v o. posted_fine _ (whos.Reader _) _ _;
+    answers = λ f older name d m i t v o. posted_fine _ (whos.Reader _) _ _;
     polls = λ name d v o. posted_fine _ (whos.Reader d.number) d.log _;
     opens = λ style name l from until o x. none_fine _;
   }
 
 -- no event takes a message away or puts one in otherwise
-network_by : (c : Config) (s : State) (e : Event) → Cases c s e (λ d m. d.state.network.sent ≡ s.network.sent)
+network_by : (c : Config) (s : State) (e : Move) → Cases c s e (λ d m. d.state.network.sent ≡ s.network.sent)
 network_by c s e = record {
-  still = λ f i. refl;
+  still = λ f older i. refl;
   says = λ x q. refl;
-  node_hears = λ f n m i t v o. handled f n m (Step.node_handles n (node_at s n) m).op (Step.node_handles n (node_at s n) m).answer;
+  node_hears = λ f older n m i t v o. handled f n m (Step.node_handles n (node_at s n) m).op (Step.node_handles n (node_at s n) m).answer;
   loads = λ n ls q b o. refl;
   draw_fails = λ n b. refl;
   formats = λ n r g b v i. refl;
@@ -190,15 +191,15 @@ network_by c s e = record {
   faults = λ n f o. refl;
   sets = λ l r x set h. refl;
   arms = λ k done o. refl;
-  hears = λ f name q m i t l v o. refl;
-  retries = λ name q v o. refl;
+  hears = λ f older name q m i t l v o. refl;
+  retries = λ again name q v o. refl;
   appends = λ name q p v a i. refl;
   trims = λ name q t v b. refl;
   drops = λ name q v o. refl;
   activates = λ name l r g n i x. refl;
   swaps = λ n m l x r q i. refl;
   activate_fails = λ name l x g q. refl;
-  answers = λ f name d m i t v o. refl;
+  answers = λ f older name d m i t v o. refl;
   polls = λ name d v o. refl;
   opens = λ style name l from until o x. refl;
 } where
@@ -212,7 +213,7 @@ network_by c s e = record {
   ticked n l (Asks from) = refl
   ticked n l Nothing = refl
 
-pub network_same : (c : Config) (s : State) (e : Event) → NamesOnce s → (Step.happens c s e).state.network.sent ≡ s.network.sent
+pub network_same : (c : Config) (s : State) (e : Move) → NamesOnce s → (Calm.moves c s e).state.network.sent ≡ s.network.sent
 network_same c s e N = dispatch c s e (λ d m. d.state.network.sent ≡ s.network.sent) N (network_by c s e)
 
 -- ---- the messages are sent ----

@@ -6,7 +6,6 @@ use Rattle.ld_lsn.specs.Number.{epoch_of, esn_of, home_epoch, last_esn}
 use Rattle.ld_ids.specs.declared.set.Spec.{Spec}
 use Rattle.ld_ids.specs.Choice.{nodes_of}
 use Rattle.ld_config.specs.declared.config.Config.{Config}
-use Rattle.ld_schedule.specs.declared.event.Event.{Event}
 use Rattle.ld_msg.specs.declared.msg.What.{What}
 use Rattle.ld_msg.specs.declared.msg.What.TheVariants.{Rec, Hole}
 use Rattle.ld_msg.specs.declared.msg.Entry.{Entry}
@@ -25,6 +24,7 @@ pub use Rattle.ld_safety.proofs.Registers.{Reached}
 use Rattle.ld_safety.proofs.Registers.{Up, reached_later}
 use Rattle.ld_safety.proofs.Given.{AppendedBy, appends_grows}
 use Rattle.ld_safety.proofs.Protocol.{Basis, plan_of, plan_at, OwnSays, PlanSays, Chosen, tells_stored, tells_settled}
+use Rattle.ld_machine.specs.Calm.{Move}
 
 abbrev pub Open : Register → ℕ → ℕ → Type 0
 Open r l e = lce_of r l < e
@@ -180,7 +180,7 @@ copies_more s sent after into l n b h = let z = count_mono (tells_settled sent l
 pub chosen_more : (s : Spec) (sent after : List Msg) (into : (m : Msg) → In m sent → In m after) (l n b : ℕ) → Chosen s sent l n b → Chosen s after l n b
 chosen_more s sent after into l n b h = let z = count_mono (tells_stored sent l n b) (tells_stored after l n b) (nodes_of s) (λ y i t. tells_more sent after into l n b y t) in omega arith
 
-module _ (c : Config) (hs : List Happened) (e : Event) (d : Done) (made more : List Made) (sent after : List Msg) (r k : Register) (into : (m : Msg) → In m sent → In m after) (u : Up r k) (s : Stays c r k) where
+module _ (c : Config) (hs : List Happened) (e : Move) (d : Done) (made more : List Made) (sent after : List Msg) (r k : Register) (into : (m : Msg) → In m sent → In m after) (u : Up r k) (s : Stays c r k) where
   next : List Happened
   next = hs ++ told r e d ∷ []
 

@@ -10,7 +10,6 @@ use Rattle.ld_ids.specs.Choice.{nodes_of}
 use Rattle.ld_ids.specs.declared.set.Spec.{Spec}
 use Rattle.ld_config.specs.Bounds.{IsInBounds, AreSpecsOf}
 use Rattle.ld_config.specs.declared.config.Config.{Config}
-use Rattle.ld_schedule.specs.declared.event.Event.{Event}
 use Rattle.ld_msg.specs.declared.msg.Msg.{Msg}
 use Rattle.ld_msg.specs.declared.msg.Body.{Body}
 use Rattle.ld_msg.specs.Register.{swap, swapped_epochs, Register, Epochs, epochs_of, no_epochs, with_epochs, next_epoch, closed_epochs, activate, close, draw}
@@ -25,6 +24,8 @@ use Rattle.ld_safety.proofs.Lists.{Some_inj, not_none}
 use Rattle.ld_safety.proofs.RegisterSteps.{Same, activate_leaves, close_leaves, draw_leaves, swap_leaves, epochs_put, epochs_same}
 use Rattle.ld_safety.proofs.Events.{NamesOnce, Cases, dispatch, refreshed}
 use Rattle.ld_safety.proofs.Registers.{Reached, spec_found, register_kept}
+use Rattle.ld_machine.specs.Calm as Calm
+use Rattle.ld_machine.specs.Calm.{Move}
 
 -- at least one copy is needed, and at most as many as there are nodes
 pub record SpecFine (p : Spec) : Type 0 where
@@ -59,7 +60,7 @@ or_first : (c : Config) (l : ℕ) (o : Option Spec) → IsInBounds c → has_log
 or_first c l None b h g = first_fine c l b h
 or_first c l (Some p) b h g = g p refl
 
-module _ (c : Config) (b : IsInBounds c) (s : State) (e : Event) (N : NamesOnce s) (A : SetsFine s) where
+module _ (c : Config) (b : IsInBounds c) (s : State) (e : Move) (N : NamesOnce s) (A : SetsFine s) where
   set_put : (l r x : ℕ) (set : List Bool) → Step.can_set c l r x (members set) ≡ true → SetFine (put l (record { log = l; set = set; r = r; extras = x }) s.specs)
   set_put l r x set h k p f = elim (put_cases k l (record { log = l; set = set; r = r; extras = x }) s.specs) [
     | inl a ↦ subst SpecFine (Some_inj (sym a.1 ∙ f)) (let z = and_parts (has_log c l) _ h in let y = and_parts (all_of (has_node c) (members set)) _ z.1 in let w = and_parts (nat_le 1 r) _ y.1 in let v = and_parts (nat_le r (length (members set))) (nat_le x 3) w.1 in
@@ -79,9 +80,9 @@ module _ (c : Config) (b : IsInBounds c) (s : State) (e : Event) (N : NamesOnce 
 
   set_cases : Cases c s e (λ d m. SetFine d.state.specs)
   set_cases = record {
-    still = λ f i. A.0;
+    still = λ f older i. A.0;
     says = λ x q. A.0;
-    node_hears = λ f n m i t v o. heard f n m (Step.releases (node_at s n) m.log m.body) (Step.node_handles n (node_at s n) m).op (Step.node_handles n (node_at s n) m).answer;
+    node_hears = λ f older n m i t v o. heard f n m (Step.releases (node_at s n) m.log m.body) (Step.node_handles n (node_at s n) m).op (Step.node_handles n (node_at s n) m).answer;
     loads = λ n ls q b o. A.0;
     draw_fails = λ n b. A.0;
     formats = λ n r g b v i. A.0;
@@ -91,15 +92,15 @@ module _ (c : Config) (b : IsInBounds c) (s : State) (e : Event) (N : NamesOnce 
     faults = λ n f o. A.0;
     sets = λ l r x set h. set_put l r x set h;
     arms = λ k done o. A.0;
-    hears = λ f name q m i t l v o. A.0;
-    retries = λ name q v o. A.0;
+    hears = λ f older name q m i t l v o. A.0;
+    retries = λ again name q v o. A.0;
     appends = λ name q p v a i. A.0;
     trims = λ name q t v b. A.0;
     drops = λ name q v o. A.0;
     activates = λ name l r g n i x. A.0;
     swaps = λ n m l x r q i. A.0;
     activate_fails = λ name l x g q. A.0;
-    answers = λ f name d m i t v o. A.0;
+    answers = λ f older name d m i t v o. A.0;
     polls = λ name d v o. A.0;
     opens = λ style name l from until o x. A.0;
   }
@@ -113,7 +114,7 @@ module _ (c : Config) (b : IsInBounds c) (s : State) (e : Event) (N : NamesOnce 
     | inr a ↦ A.1 j k p (ap (λ (z : Epochs). find k z.specs) (sym (epochs_same (with_epochs s.register l x) n j q ∙ a.1)) ∙ f)
   ]
 
-  fixed_after : FixedFine (Step.happens c s e).state.register
+  fixed_after : FixedFine (Calm.moves c s e).state.register
   fixed_after = register_kept c s e FixedFine A.1
       (λ l g. elim (activate_leaves s.register l (Step.spec_set c s l)) [
         | inl a ↦ by_logs (activate s.register l (Step.spec_set c s l)).register a.0
@@ -144,7 +145,7 @@ module _ (c : Config) (b : IsInBounds c) (s : State) (e : Event) (N : NamesOnce 
   ]
 
   -- a new epoch has what is set
-  each_after : EachFixed (Step.happens c s e).state.register
+  each_after : EachFixed (Calm.moves c s e).state.register
   each_after = register_kept c s e EachFixed A.2
       (λ l g. elim (activate_leaves s.register l (Step.spec_set c s l)) [
         | inl a ↦ each_by_logs (activate s.register l (Step.spec_set c s l)).register a.0
@@ -165,7 +166,7 @@ module _ (c : Config) (b : IsInBounds c) (s : State) (e : Event) (N : NamesOnce 
       ])
       each_by_logs N
 
-  pub fine_step : SetsFine (finish (Step.happens c s e)).state
+  pub fine_step : SetsFine (finish (Calm.moves c s e)).state
   unfolding finish
   fine_step = (dispatch c s e (λ d m. SetFine d.state.specs) N set_cases, fixed_after, each_after)
 

@@ -5,7 +5,6 @@ use Rattle.ld_table.specs.Table.{find}
 use Rattle.ld_table.specs.Named.{find_named}
 use Rattle.ld_lsn.specs.Number.{epoch_of, esn_of, numbered, last_esn}
 use Rattle.ld_config.specs.declared.config.Config.{Config}
-use Rattle.ld_schedule.specs.declared.event.Event.{Event}
 use Rattle.ld_msg.specs.declared.msg.What.{What}
 use Rattle.ld_msg.specs.declared.msg.What.TheVariants.{Rec, Bridge}
 use Rattle.ld_msg.specs.declared.msg.Summary.{Summary}
@@ -16,9 +15,9 @@ use Rattle.ld_machine.specs.State.{finish}
 use Rattle.ld_machine.specs.Facts.{Happened}
 use Rattle.ld_machine.specs.World.{World, Made, In, begin, item, settled, HasPlan}
 use Rattle.ld_machine.specs.Invariant.{StandsOn, Follows, Closed, IsOpen, Ready}
-use Rattle.ld_machine.specs.Run.{Move, next_world, world_after, trace}
+use Rattle.ld_machine.specs.Run.{Move, after_step, world_after, trace}
 use Rattle.ld_safety.proofs.Lists.{not_none, cond_both, count_mono, not_both}
-use Rattle.ld_safety.proofs.Traces.{Keeps, happened, later, beside_kept, both_kept}
+use Rattle.ld_safety.proofs.Traces.{Keeps, step_happened, later, beside_kept, both_kept}
 use Rattle.ld_safety.proofs.HandedLaws.{Handing, handing_kept}
 use Rattle.ld_safety.proofs.Given.{AppendedBy}
 use Rattle.ld_safety.proofs.Closings.{OfSummaries, summaries_after}
@@ -63,7 +62,7 @@ module _ (c : Config) (hs : List Happened) (w : World) (B : BaseGiven c hs w × 
     | inr k ↦ subst (Trimmed q.log) (sym k.trim) (closing_stage name q v (Stores k.storing) l.named r k.stage).0.0
   ]
 
-trim_acked_step : (c : Config) (hs : List Happened) (w : World) (e : Event) → BaseGiven c hs w × Along c hs w → TrimAcked c hs w → TrimAcked c (hs ++ happened c w.state e ∷ []) (next_world c w e)
+trim_acked_step : (c : Config) (hs : List Happened) (w : World) (e : Move) → BaseGiven c hs w × Along c hs w → TrimAcked c hs w → TrimAcked c (hs ++ step_happened c w.state e ∷ []) (after_step c w e)
 unfolding finish
 trim_acked_step c hs w e B H l k y f n p pos lt = acks_both c hs w e B.0.0 B.0.1 B.1 l n
     (summaries_after c w.state e (λ l k y. (n : ℕ) → epoch_of n ≡ k → 0 < esn_of n → n ≤ y.trim → Acknowledged c hs w.state.network.sent w.state.register l n) H

@@ -1,7 +1,6 @@
 -- The lines and the messages of a step, once it is finished.
 use Rattle.std.proofs.Common.{◌≡◌, ◌∙◌, ◌⊎◌, ℕ, ◌+◌, inl, inr, refl, ap, sym, subst, Bool, true, false, List, [], ◌∷◌, ◌++◌, Option, None, filter_map, append-nil, length}
 use Rattle.std.proofs.lemmas.List.Elements.{filter_map-append}
-use Rattle.ld_schedule.specs.declared.event.Event.{Event}
 use Rattle.ld_transcript.specs.declared.line.Line.{Line}
 use Rattle.ld_transcript.specs.declared.line.Line.TheVariants as lines
 use Rattle.ld_msg.specs.declared.msg.Msg.{Msg}
@@ -9,11 +8,12 @@ use Rattle.ld_config.specs.declared.config.Config.{Config}
 use Rattle.ld_msg.specs.Network.{Network, send, send_all}
 use Rattle.ld_machine.specs.State.{State, Done, finish, or_none, message_lines, message_line}
 use Rattle.ld_msg.specs.Register.{Register}
-use Rattle.ld_machine.specs.Facts.{Happened, Writes, epoch_made, swap_made}
+use Rattle.ld_machine.specs.Facts.{Happened, Writes}
 use Rattle.ld_machine.specs.World.{World, Made, In, joined_on}
-use Rattle.ld_machine.specs.Run.{next_world}
+use Rattle.ld_machine.specs.Calm.{Move, event_of}
+use Rattle.ld_machine.specs.Run.{after_step, epoch_made, swap_made}
 use Rattle.ld_safety.proofs.Lists.{In-append, In_left, In-slice_get, slice_get_end, slice_get_left}
-use Rattle.ld_safety.proofs.Traces.{happened}
+use Rattle.ld_safety.proofs.Traces.{step_happened}
 use Rattle.ld_safety.proofs.Events.{NamesOnce, Cases, dispatch}
 
 -- a line that every step may have: of a message, or of nothing
@@ -123,12 +123,12 @@ writes_before hs gs k x w = (w.0, slice_get_left w.0 hs gs k w.1, w.2, w.3)
 
 -- ---- from cases of events to what each step keeps ----
 
-abbrev pub became : World → Event → Done → List Made → World
-became w e d m = record { state = (finish d).state; made = m ++ w.made; joined = joined_on w.state (finish d).state e ++ w.joined }
+abbrev pub became : World → Move → Done → List Made → World
+became w e d m = record { state = (finish d).state; made = m ++ w.made; joined = joined_on w.state (finish d).state (event_of e) ++ w.joined }
 
-abbrev pub told : Register → Event → Done → Happened
-told r e d = record { event = e; lines = (finish d).lines; made = epoch_made r (finish d).state.register e; swapped = swap_made r (finish d).state.register e }
+abbrev pub told : Register → Move → Done → Happened
+told r e d = record { event = event_of e; lines = (finish d).lines; made = epoch_made r (finish d).state.register (event_of e); swapped = swap_made r (finish d).state.register (event_of e) }
 
-pub step_by : (c : Config) (P : List Happened → World → Type 0) (hs : List Happened) (w : World) (e : Event) → NamesOnce w.state
-    → Cases c w.state e (λ d m. P (hs ++ told w.state.register e d ∷ []) (became w e d m)) → P (hs ++ happened c w.state e ∷ []) (next_world c w e)
+pub step_by : (c : Config) (P : List Happened → World → Type 0) (hs : List Happened) (w : World) (e : Move) → NamesOnce w.state
+    → Cases c w.state e (λ d m. P (hs ++ told w.state.register e d ∷ []) (became w e d m)) → P (hs ++ step_happened c w.state e ∷ []) (after_step c w e)
 step_by c P hs w e N K = dispatch c w.state e (λ d m. P (hs ++ told w.state.register e d ∷ []) (became w e d m)) N K

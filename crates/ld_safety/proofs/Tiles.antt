@@ -1,14 +1,13 @@
 -- What readers get tiles the numbers from their first one on.
-use Rattle.std.proofs.Common.{◌≡◌, ◌∙◌, ◌≤◌, ◌<◌, ℕ, ◌+◌, min, inl, inr, refl, ap, sym, subst, Bool, true, false, ◌&&◌, if◌then◌else◌, nat_lt, nat_le, ◌==◌, ◌-◌, ◌^◌, cond, List, [], ◌∷◌, ◌++◌, length, filter_map, append-nil, Option, Some, None, is_some, arith}
+use Rattle.std.proofs.Common.{◌≡◌, ◌∙◌, ◌≤◌, ◌<◌, ℕ, ◌+◌, min, inl, inr, refl, ap, sym, subst, Bool, true, false, ◌&&◌, if◌then◌else◌, nat_lt, nat_le, ◌==◌, ◌-◌, ◌^◌, cond, List, [], ◌∷◌, ◌++◌, length, filter_map, append-nil, Option, Some, None, arith}
 use Rattle.std.proofs.lemmas.Bool.{cases_Bool, cases_order, and_parts, ltb-false, ltb-true, eqb-true, eqb-false}
 use Rattle.std.proofs.lemmas.List.Elements.{filter_map-append}
 use Rattle.std.proofs.lemmas.Grind.{flat_map-append}
 use Rattle.ld_table.specs.Named.{same, find_named, put_named}
 use Rattle.ld_table.specs.Words.{or_else}
-use Rattle.ld_table.proofs.NameLaws.{same-true, same-self, same-flip}
+use Rattle.ld_table.proofs.NameLaws.{same-self, same-flip}
 use Rattle.ld_lsn.specs.Number.{home_epoch, home_esn, is_epoch_end, esn_of, epoch_of, numbered}
 use Rattle.ld_schedule.specs.declared.event.Event.{Event}
-use Rattle.ld_schedule.specs.declared.event.Event.TheVariants as events
 use Rattle.ld_transcript.specs.declared.line.Line.{Line}
 use Rattle.ld_transcript.specs.declared.line.Line.TheVariants as lines
 use Rattle.ld_msg.specs.declared.msg.Msg.{Msg}
@@ -17,24 +16,25 @@ use Rattle.ld_config.specs.declared.config.Config.{Config}
 use Rattle.ld_op.specs.declared.op.Op.{Op}
 use Rattle.ld_op.specs.Ticks.{Ticked, Cleans, Rebuilt, Asks, Nothing}
 use Rattle.ld_ids.specs.declared.set.Spec.{Spec}
-use Rattle.ld_machine.specs.Config.{looks_at, has_log}
+use Rattle.ld_machine.specs.Config.{looks_at}
 use Rattle.ld_msg.specs.Register.{View, epoch_limit, Register, generation_of, epochs_in}
 use Rattle.ld_op.specs.declared.op.Op.TheVariants as ops
 use Rattle.ld_machine.specs.Disk.{Node, Kept, Written, DiskFailed, Crashed, JournalFull, keep_end}
 use Rattle.ld_msg.specs.Reading.{Held, bridge_to, end_shown, end_held, Item, TrimTo, RecordHere, HoleHere, BridgeTo, LossHere, LossTo, trim_held}
 use Rattle.ld_msg.specs.Reader.{Reader, Read, is_finished, gives, item_end, heard, held_with, is_newer, round_of, opened, on_answer, polled, nothing_read, look_of}
-use Rattle.ld_msg.specs.Sequencer.{Sequencer, Acts, called, rose}
+use Rattle.ld_msg.specs.Sequencer.{Called, Sequencer, Acts, rose}
 use Rattle.ld_machine.specs.State.{State, Done, finish, or_none, message_lines, node_at, with_node, with_register}
-use Rattle.ld_machine.specs.Facts.{Happened, Opening, opening, opening_of, wrote_nothing, Interval, interval_of, intervals, opened_as}
+use Rattle.ld_machine.specs.Facts.{Happened, Opening, opening, opening_of, Interval, interval_of, intervals}
 use Rattle.ld_machine.specs.Safe.{TilesFrom, ItemsTile}
 use Rattle.ld_machine.specs.World.{World, In, begin}
 use Rattle.ld_machine.specs.Run.{history}
 use Rattle.ld_machine.specs.Step as Step
-use Rattle.ld_safety.proofs.Lists.{not_both, first_grows, or_else_some, or_else_none, or_else_new, In-append, Some_inj, not_none, cond_both, branch}
+use Rattle.ld_safety.proofs.Lists.{first_grows, or_else_some, or_else_none, or_else_new, In-append, Some_inj, not_none, cond_both, branch}
 use Rattle.ld_safety.proofs.Names.{named_cases}
 use Rattle.ld_safety.proofs.Traces.{Keeps, at_end, beside_kept}
-use Rattle.ld_safety.proofs.Events.{Cases, refreshed, loaded, Opens, Idle, is_quiet, opens_as}
-use Rattle.ld_safety.proofs.Steps.{is_plain, filter_finish, told, became, step_by}
+use Rattle.ld_safety.proofs.Events.{reply_call, retry_call, announced, Cases, dispatch, refreshed, loaded, Opens, is_quiet, opens_as}
+use Rattle.ld_safety.proofs.Steps.{is_plain, filter_finish, told, became}
+use Rattle.ld_safety.proofs.Openings.{of_messages, opens_of, Unopened, no_opening, same_style}
 use Rattle.ld_safety.proofs.ReaderSteps.{dropped_held, ReadKeeps, answered, below_end, end_in}
 use Rattle.ld_safety.proofs.Members.{In_put}
 use Rattle.ld_safety.proofs.Base.{Base}
@@ -45,8 +45,8 @@ use Rattle.ld_msg.specs.declared.msg.Body.TheVariants as bodies
 use Rattle.ld_msg.specs.declared.msg.Who.TheVariants as whos
 use Rattle.ld_table.specs.Table.{find, put}
 use Rattle.ld_msg.specs.declared.style.Style.{Style}
-use Rattle.ld_msg.specs.declared.style.Style.TheVariants as styles
 use Rattle.ld_safety.proofs.Batches.{interval_same, others_lines, item_lines-append}
+use Rattle.ld_machine.specs.Calm.{Move, event_of}
 
 -- ---- lists of intervals ----
 
@@ -152,46 +152,12 @@ format_none c n r x (inr i) = lost_lines_none n r c.logs x i
 pub opening_grows : (c : Config) (r : List ℕ) (hs : List Happened) (h : Happened) → opening c r (hs ++ h ∷ []) ≡ or_else (opening c r hs) (opening_of c r h.lines h.event)
 opening_grows c r hs h = first_grows (λ (g : Happened). opening_of c r g.lines g.event) hs h
 
-intervals_grow : (r : List ℕ) (hs : List Happened) (old : Register) (e : Event) (d : Done) → intervals r (hs ++ told old e d ∷ []) ≡ intervals r hs ++ filter_map (interval_of r) d.lines
+intervals_grow : (r : List ℕ) (hs : List Happened) (old : Register) (e : Move) (d : Done) → intervals r (hs ++ told old e d ∷ []) ≡ intervals r hs ++ filter_map (interval_of r) d.lines
 intervals_grow r hs old e d = flat_map-append (λ (h : Happened). filter_map (interval_of r) h.lines) hs (told old e d ∷ [])
     ∙ ap (λ l. intervals r hs ++ l) (append-nil (filter_map (interval_of r) (finish d).lines) ∙ filter_finish (interval_of r) (plain_interval r) d)
 
-intervals_same : (r : List ℕ) (hs : List Happened) (old : Register) (e : Event) (d : Done) → filter_map (interval_of r) d.lines ≡ [] → intervals r (hs ++ told old e d ∷ []) ≡ intervals r hs
+intervals_same : (r : List ℕ) (hs : List Happened) (old : Register) (e : Move) (d : Done) → filter_map (interval_of r) d.lines ≡ [] → intervals r (hs ++ told old e d ∷ []) ≡ intervals r hs
 intervals_same r hs old e d n = intervals_grow r hs old e d ∙ (ap (λ l. intervals r hs ++ l) n ∙ append-nil (intervals r hs))
-
--- ---- a step that opens no reader ----
-
-abbrev is_nothing : Line → Bool
-is_nothing lines.Nothing = true
-is_nothing _ = false
-
-wrote_something : (x : Line) (ls : List Line) → is_nothing x ≡ false → wrote_nothing (x ∷ ls) ≡ false
-wrote_something lines.Nothing ls h = absurd cc
-wrote_something _ ls h = refl
-
-said_something : (d : Done) (x : Line) (ls : List Line) → d.lines ≡ x ∷ ls → is_nothing x ≡ false → wrote_nothing (finish d).lines ≡ false
-unfolding finish
-said_something d x ls e h = subst (λ (l : List Line). wrote_nothing (or_none (l ++ message_lines d.state d.state.network.count d.sends)) ≡ false) (sym e) (wrote_something x (ls ++ message_lines d.state d.state.network.count d.sends) h)
-
-not_opened : (c : Config) (r : List ℕ) (ls : List Line) (name : List ℕ) (l from until : ℕ) → wrote_nothing ls ≡ false → opened_as c r ls name l from until ≡ None
-not_opened c r ls name l from until h = cond_both ((same name r && has_log c l) && wrote_nothing ls) _ None (λ o. o ≡ None) (λ t. absurd (not_both (wrote_nothing ls) (and_parts (same name r && has_log c l) (wrote_nothing ls) t).1 h)) (λ t. refl)
-
-said_no_open : (c : Config) (r : List ℕ) (ls : List Line) (e : Event) → wrote_nothing ls ≡ false → opening_of c r ls e ≡ None
-said_no_open c r ls (events.Open name l from until) h = not_opened c r ls name l from until h
-said_no_open c r ls (events.OpenOne name l from until) h = not_opened c r ls name l from until h
-said_no_open c r ls (events.OpenMessages name l from until) h = not_opened c r ls name l from until h
-said_no_open c r ls _ h = refl
-
-idle_opened : (c : Config) (s : State) (r : List ℕ) (ls : List Line) (name : List ℕ) (l from until : ℕ) → (has_log c l ≡ true → is_some (find_named name s.readers) ≡ true) → find_named r s.readers ≡ None → opened_as c r ls name l from until ≡ None
-idle_opened c s r ls name l from until i n = cond_both ((same name r && has_log c l) && wrote_nothing ls) _ None (λ o. o ≡ None)
-    (λ t. let p = and_parts (same name r && has_log c l) (wrote_nothing ls) t in let q = and_parts (same name r) (has_log c l) p.0 in
-    absurd (let a : is_some (find_named r s.readers) ≡ true = subst (λ x. is_some (find_named x s.readers) ≡ true) (same-true name r q.0) (i q.1) in let b : is_some (find_named r s.readers) ≡ false = ap (λ (o : Option Reader). is_some o) n in cc)) (λ t. refl)
-
-idle_no_open : (c : Config) (s : State) (r : List ℕ) (ls : List Line) (e : Event) → Idle c s e → find_named r s.readers ≡ None → opening_of c r ls e ≡ None
-idle_no_open c s r ls (events.Open name l from until) i n = idle_opened c s r ls name l from until i n
-idle_no_open c s r ls (events.OpenOne name l from until) i n = idle_opened c s r ls name l from until i n
-idle_no_open c s r ls (events.OpenMessages name l from until) i n = idle_opened c s r ls name l from until i n
-idle_no_open c s r ls _ i n = refl
 
 -- ---- what a reader has got ----
 
@@ -200,6 +166,7 @@ pub record Got (c : Config) (hs : List Happened) (r : List ℕ) (d : Reader) : T
   pub is : opening c r hs ≡ Some open_as
   pub log : open_as.log ≡ d.log
   pub until : open_as.until ≡ d.until
+  pub messages : open_as.messages ≡ of_messages d.style
   pub start : open_as.from ≡ 0 → ⊥
   pub tiles : TilesTo d.until open_as.from (intervals r hs) d.next
 
@@ -210,26 +177,28 @@ GotBy c hs r (Some d) = Got c hs r d
 abbrev pub AllGot : Config → List Happened → World → Type 0
 AllGot c hs w = (r : List ℕ) → GotBy c hs r (find_named r w.state.readers)
 
-module _ (c : Config) (hs : List Happened) (s : State) (e : Event) where
+module _ (c : Config) (hs : List Happened) (s : State) (e : Move) where
   -- nothing is given to this name, and nobody is opened
-  same_got : (d : Done) (r : List ℕ) (o : Option Reader) → filter_map (interval_of r) d.lines ≡ [] → (o ≡ None → opening_of c r (finish d).lines e ≡ None) → GotBy c hs r o → GotBy c (hs ++ told s.register e d ∷ []) r o
+  same_got : (d : Done) (r : List ℕ) (o : Option Reader) → filter_map (interval_of r) d.lines ≡ [] → (o ≡ None → opening_of c r (finish d).lines (event_of e) ≡ None) → GotBy c hs r o → GotBy c (hs ++ told s.register e d ∷ []) r o
   same_got d r None n i g = (opening_grows c r hs (told s.register e d) ∙ or_else_none (opening c r hs) _ g.0 (i refl), intervals_same r hs s.register e d n ∙ g.1)
   same_got d r (Some x) n i g = record {
     open_as = g.open_as;
     is = opening_grows c r hs (told s.register e d) ∙ or_else_some (opening c r hs) _ g.open_as g.is;
     log = g.log;
     until = g.until;
+    messages = g.messages;
     start = g.start;
     tiles = subst (λ is. TilesTo x.until g.open_as.from is x.next) (sym (intervals_same r hs s.register e d n)) g.tiles;
   }
 
   -- a reader gets some items
-  more_got : (d : Done) (r : List ℕ) (x y : Reader) → Got c hs r x → y.log ≡ x.log → y.until ≡ x.until → TilesTo x.until x.next (filter_map (interval_of r) d.lines) y.next → Got c (hs ++ told s.register e d ∷ []) r y
-  more_got d r x y g a b t = record {
+  more_got : (d : Done) (r : List ℕ) (x y : Reader) → Got c hs r x → y.log ≡ x.log → y.until ≡ x.until → y.style ≡ x.style → TilesTo x.until x.next (filter_map (interval_of r) d.lines) y.next → Got c (hs ++ told s.register e d ∷ []) r y
+  more_got d r x y g a b m t = record {
     open_as = g.open_as;
     is = opening_grows c r hs (told s.register e d) ∙ or_else_some (opening c r hs) _ g.open_as g.is;
     log = g.log ∙ sym a;
     until = g.until ∙ sym b;
+    messages = g.messages ∙ ap of_messages (sym m);
     start = g.start;
     tiles = subst (λ is. TilesTo y.until g.open_as.from is y.next) (sym (intervals_grow r hs s.register e d))
         (subst (λ u. TilesTo u g.open_as.from (intervals r hs ++ filter_map (interval_of r) d.lines) y.next) (sym b) (tiles_on x.until g.open_as.from x.next y.next (intervals r hs) (filter_map (interval_of r) d.lines) g.tiles t));
@@ -333,78 +302,58 @@ module _ (r : List ℕ) (d : Reader) where
 
 -- ---- every event ----
 
-module _ (c : Config) (hs : List Happened) (w : World) (e : Event) (B : Base c hs w) (G : Given c hs w.state) (A : AllGot c hs w) where
+module _ (c : Config) (hs : List Happened) (w : World) (e : Move) (B : Base c hs w) (G : Given c hs w.state) (A : AllGot c hs w) where
   abbrev Result : Done → Type 0
-  Result d = AllGot c (hs ++ told w.state.register e d ∷ []) (became w e d [])
+  Result d = Unopened c w.state e d → AllGot c (hs ++ told w.state.register e d ∷ []) (became w e d [])
 
-  -- readers stay, no item is given, and nobody is opened
-  stays : (d : Done) → d.state.readers ≡ w.state.readers → NoItems d.lines → ((r : List ℕ) → find_named r w.state.readers ≡ None → opening_of c r (finish d).lines e ≡ None) → Result d
+  -- readers stay, and no item is given
+  stays : (d : Done) → d.state.readers ≡ w.state.readers → NoItems d.lines → Result d
   unfolding finish
   stays d q n i r = subst (λ (x : List (List ℕ × Reader)). GotBy c (hs ++ told w.state.register e d ∷ []) r (find_named r x)) (sym q)
-      (same_got c hs w.state e d r (find_named r w.state.readers) (none_of_lines r d.lines n) (i r) (A r))
-
-  idle_stays : (d : Done) → Idle c w.state e → d.state.readers ≡ w.state.readers → NoItems d.lines → Result d
-  idle_stays d i q n = stays d q n (λ r f. idle_no_open c w.state r (finish d).lines e i f)
-
-  said_stays : (d : Done) (x : Line) (ls : List Line) → d.lines ≡ x ∷ ls → is_nothing x ≡ false → d.state.readers ≡ w.state.readers → NoItems d.lines → Result d
-  said_stays d x ls t h q n = stays d q n (λ r f. said_no_open c r (finish d).lines e (said_something d x ls t h))
+      (same_got c hs w.state e d r (find_named r w.state.readers) (none_of_lines r d.lines n) (λ f. i r f (ap (find_named r) q ∙ f)) (A r))
 
   -- one reader changes
-  changes : (d : Done) (name : List ℕ) (x y : Reader) → d.state.readers ≡ put_named name y w.state.readers → find_named name w.state.readers ≡ Some x → Idle c w.state e
+  changes : (d : Done) (name : List ℕ) (x y : Reader) → d.state.readers ≡ put_named name y w.state.readers → find_named name w.state.readers ≡ Some x
       → ((q : List ℕ) → same name q ≡ false → filter_map (interval_of q) d.lines ≡ []) → (Got c hs name x → Got c (hs ++ told w.state.register e d ∷ []) name y) → Result d
   unfolding finish
-  changes d name x y q f i o g r = subst (λ (z : List (List ℕ × Reader)). GotBy c (hs ++ told w.state.register e d ∷ []) r (find_named r z)) (sym q) (elim (named_cases r name y w.state.readers) [
+  changes d name x y q f o g i r = subst (λ (z : List (List ℕ × Reader)). GotBy c (hs ++ told w.state.register e d ∷ []) r (find_named r z)) (sym q) (elim (named_cases r name y w.state.readers) [
     | inl a ↦ subst (λ (v : Option Reader). GotBy c (hs ++ told w.state.register e d ∷ []) r v) (sym a.1) (subst (λ n. Got c (hs ++ told w.state.register e d ∷ []) n y) (sym a.0) (g (subst (λ (v : Option Reader). GotBy c hs name v) f (A name))))
     | inr a ↦ subst (λ (v : Option Reader). GotBy c (hs ++ told w.state.register e d ∷ []) r v) (sym a.1)
-        (same_got c hs w.state e d r (find_named r w.state.readers) (o r (same-flip name r ∙ a.0)) (λ h. idle_no_open c w.state r (finish d).lines e i h) (A r))
+        (same_got c hs w.state e d r (find_named r w.state.readers) (o r (same-flip name r ∙ a.0)) (λ h. i r h (ap (find_named r) q ∙ (a.1 ∙ h))) (A r))
   ])
 
   -- a reader is opened
-  -- an event that opens a reader
-  opens_of : (style : Style) (r : List ℕ) (ls : List Line) (name : List ℕ) (l from until : ℕ) → opening_of c r ls (opens_as style name l from until) ≡ opened_as c r ls name l from until
-  opens_of styles.EachCopy r ls name l from until = refl
-  opens_of styles.OneCopy r ls name l from until = refl
-  opens_of styles.OfMessages r ls name l from until = refl
-
   opened_got : (style : Style) (name : List ℕ) (l from until : ℕ) (d : Done) → d.lines ≡ [] → d.sends ≡ [] → Opens c w.state name l from until → e ≡ opens_as style name l from until → GotBy c hs name None → Got c (hs ++ told w.state.register e d ∷ []) name (opened style l (length w.state.readers) from until)
   unfolding finish
   opened_got style name l from until d n ms o x g =
       let ls : (finish d).lines ≡ lines.Nothing ∷ [] = λ i. or_none (n i ++ message_lines d.state d.state.network.count (ms i)) in
-      let op : opening_of c name (finish d).lines e ≡ Some (record { log = l; from = from; until = until })
-      = (λ i. opening_of c name (ls i) (x i)) ∙ opens_of style name (lines.Nothing ∷ []) name l from until ∙ ap (λ b. cond b (Some (record { log = l; from = from; until = until })) None) ((λ i. (same-self name i && o.log i) && true)) in
+      let op : opening_of c name (finish d).lines (event_of e) ≡ Some (record { log = l; from = from; until = until; messages = of_messages style })
+      = (λ i. opening_of c name (ls i) (event_of (x i))) ∙ opens_of c style name (lines.Nothing ∷ []) name l from until ∙ ap (λ b. cond b (Some (record { log = l; from = from; until = until; messages = of_messages style })) None) ((λ i. (same-self name i && o.log i) && true)) in
       record {
-        open_as = record { log = l; from = from; until = until };
+        open_as = record { log = l; from = from; until = until; messages = of_messages style };
         is = opening_grows c name hs (told w.state.register e d) ∙ (or_else_new (opening c name hs) _ g.0 ∙ op);
         log = refl;
         until = refl;
+        messages = refl;
         start = o.positive;
         tiles = subst (λ is. TilesTo until from is from) (sym (intervals_same name hs w.state.register e d (ap (filter_map (interval_of name)) n) ∙ g.1)) refl;
       }
 
   opens_one : (style : Style) (name : List ℕ) (l from until : ℕ) (d : Done) → d.state.readers ≡ put_named name (opened style l (length w.state.readers) from until) w.state.readers → d.lines ≡ [] → d.sends ≡ [] → Opens c w.state name l from until → e ≡ opens_as style name l from until → Result d
   unfolding finish
-  opens_one style name l from until d q n ms o x r = subst (λ (z : List (List ℕ × Reader)). GotBy c (hs ++ told w.state.register e d ∷ []) r (find_named r z)) (sym q) (elim (named_cases r name (opened style l (length w.state.readers) from until) w.state.readers) [
+  opens_one style name l from until d q n ms o x i r = subst (λ (z : List (List ℕ × Reader)). GotBy c (hs ++ told w.state.register e d ∷ []) r (find_named r z)) (sym q) (elim (named_cases r name (opened style l (length w.state.readers) from until) w.state.readers) [
     | inl a ↦ subst (λ (v : Option Reader). GotBy c (hs ++ told w.state.register e d ∷ []) r v) (sym a.1) (subst (λ k. Got c (hs ++ told w.state.register e d ∷ []) k (opened style l (length w.state.readers) from until)) (sym a.0)
         (opened_got style name l from until d n ms o x (subst (λ (v : Option Reader). GotBy c hs name v) o.fresh_name (A name))))
     | inr a ↦ subst (λ (v : Option Reader). GotBy c (hs ++ told w.state.register e d ∷ []) r v) (sym a.1)
         (same_got c hs w.state e d r (find_named r w.state.readers) (ap (filter_map (interval_of r)) n)
-        (λ h. subst (λ v. opening_of c r (finish d).lines v ≡ None) (sym x) (opens_of style r (finish d).lines name l from until ∙ ap (λ b. cond ((b && has_log c l) && wrote_nothing (finish d).lines) (Some (record { log = l; from = from; until = until })) None) (same-flip name r ∙ a.0))) (A r))
+        (λ h. i r h (ap (find_named r) q ∙ (a.1 ∙ h))) (A r))
   ])
 
-  first_said : (n : ℕ) (r : Register) (k : Kept) → (x : Line) × (ls : List Line) × (Step.kept_lines n (Step.format_lines c n r) k ≡ x ∷ ls) × (is_nothing x ≡ false)
-  first_said n r Written = (lines.NodeFormatted n (generation_of r n), Step.lost_lines n r c.logs, refl, refl)
-  first_said n r DiskFailed = (lines.NodeFailed n, [], refl, refl)
-  first_said n r Crashed = (lines.NodeDown n, [], refl, refl)
-  first_said n r JournalFull = (lines.NodeFull n, [], refl, refl)
-
   formatted : (n : ℕ) (r : Register) → Result (Step.keeps_op (with_register (loaded w.state n) r) n (ops.Format (generation_of r n) (epochs_in r.logs)) (Step.format_lines c n r) [])
-  formatted n r =
-      let k : Kept = keep_end (node_at (with_register (loaded w.state n) r) n) (ops.Format (generation_of r n) (epochs_in r.logs)) in
-      let f = first_said n r k in
-      said_stays (Step.keeps_op (with_register (loaded w.state n) r) n (ops.Format (generation_of r n) (epochs_in r.logs)) (Step.format_lines c n r) []) f.0 f.1 f.2 f.3 refl (kept_lines_none n (Step.format_lines c n r) k (format_none c n r))
+  formatted n r = stays _ refl (kept_lines_none n (Step.format_lines c n r) (keep_end (node_at (with_register (loaded w.state n) r) n) (ops.Format (generation_of r n) (epochs_in r.logs))) (format_none c n r))
 
-  acted_stays : (f : List ℕ) (name : List ℕ) (q : Sequencer) (a : Acts) → Idle c w.state e → Result (Step.acted c (refreshed w.state f) name q a)
-  acted_stays f name q a i = idle_stays (Step.acted c (refreshed w.state f) name q a) i refl (acted_none name q (called (looks_at c w.state.register q.log) w.state.register a a.tries).acts)
+  acted_stays : (again : Bool) (f : List ℕ) (name : List ℕ) (q : Sequencer) (call : Called) → Result (Step.told (refreshed w.state f) name q (announced again call))
+  acted_stays again f name q call = stays (Step.told (refreshed w.state f) name q (announced again call)) refl (acted_none name q call.acts)
 
   reader_small : (name : List ℕ) (d : Reader) → find_named name w.state.readers ≡ Some d → AllSmall d.held
   unfolding AllSmall
@@ -415,47 +364,43 @@ module _ (c : Config) (hs : List Happened) (w : World) (e : Event) (B : Base c h
 
   got_cases : Cases c w.state e (λ d m. Result d)
   got_cases = record {
-    still = λ f i. idle_stays _ i refl nothing_none;
-    says = λ x q. said_stays _ x [] refl (quiet_something x q) refl (one_line x (quiet_item x q));
-    node_hears = λ f n m i t v o. handled f (Step.releases (node_at w.state n) m.log m.body) n m (Step.node_handles n (node_at w.state n) m).op (Step.node_handles n (node_at w.state n) m).answer o;
-    loads = λ n ls q b o. idle_stays _ o refl (λ x i. quiet_item x (q x i));
-    draw_fails = λ n b. said_stays _ _ [] refl refl refl (one_line _ refl);
+    still = λ f older i. stays _ refl nothing_none;
+    says = λ x q. stays _ refl (one_line x (quiet_item x q));
+    node_hears = λ f older n m i t v o. handled f (Step.releases (node_at w.state n) m.log m.body) n m (Step.node_handles n (node_at w.state n) m).op (Step.node_handles n (node_at w.state n) m).answer;
+    loads = λ n ls q b o. stays _ refl (λ x i. quiet_item x (q x i));
+    draw_fails = λ n b. stays _ refl (one_line _ refl);
     formats = λ n r g b v i. formatted n r;
-    ticks = λ n l t v i o. ticked n l t o;
-    stops = λ n b. said_stays _ _ [] refl refl refl (one_line _ refl);
-    wipes = λ n. said_stays _ _ [] refl refl refl (one_line _ refl);
-    faults = λ n f o. idle_stays _ o refl nothing_none;
-    sets = λ l r x set h. said_stays _ (lines.Set l r x set) [] refl refl refl (one_line (lines.Set l r x set) refl);
-    arms = λ k done o. idle_stays _ o refl nothing_none;
-    hears = λ f name q m i t l v o. acted_stays f name q _ o;
-    retries = λ name q v o. acted_stays w.state.network.fresh name q _ o;
-    appends = λ name q p v a i. said_stays _ _ [] refl refl refl (one_line _ refl);
-    trims = λ name q t v b. said_stays _ _ [] refl refl refl (one_line _ refl);
-    drops = λ name q v o. idle_stays _ o refl nothing_none;
-    activates = λ name l r g n i x. said_stays _ _ [] refl refl refl (one_line _ refl);
-    swaps = λ n m l x r q i. said_stays _ x [] refl (quiet_something x q) refl (one_line x (quiet_item x q));
-    activate_fails = λ name l x g q. said_stays _ x [] refl (quiet_something x q) refl (one_line x (quiet_item x q));
-    answers = λ f name d m i t v o. let a = answered (looks_at c w.state.register d.log) d (Step.sender_node m.from) m.body (Gives name d) (gives_keeps name d (looks_at c w.state.register d.log) (Step.sender_node m.from) m.body v.open_still (reader_small name d v.named) (message_small d m name i t v.named)) in
-        changes _ name d (on_answer (looks_at c w.state.register d.log) d (Step.sender_node m.from) m.body).reader refl v.named o.0
+    ticks = λ n l t v i o. ticked n l t;
+    stops = λ n b. stays _ refl (one_line _ refl);
+    wipes = λ n. stays _ refl (one_line _ refl);
+    faults = λ n f o. stays _ refl nothing_none;
+    sets = λ l r x set h. stays _ refl (one_line (lines.Set l r x set) refl);
+    arms = λ k done o. stays _ refl nothing_none;
+    hears = λ f older name q m i t l v o. acted_stays false f name q (reply_call c w.state q (Step.sender_node m.from) m.body);
+    retries = λ again name q v o. acted_stays again w.state.network.fresh name q (retry_call c w.state q);
+    appends = λ name q p v a i. stays _ refl (one_line _ refl);
+    trims = λ name q t v b. stays _ refl (one_line _ refl);
+    drops = λ name q v o. stays _ refl nothing_none;
+    activates = λ name l r g n i x. stays _ refl (one_line _ refl);
+    swaps = λ n m l x r q i. stays _ refl (one_line x (quiet_item x q));
+    activate_fails = λ name l x g q. stays _ refl (one_line x (quiet_item x q));
+    answers = λ f older name d m i t v o. let a = answered (looks_at c w.state.register d.log) d (Step.sender_node m.from) m.body (Gives name d) (gives_keeps name d (looks_at c w.state.register d.log) (Step.sender_node m.from) m.body v.open_still (reader_small name d v.named) (message_small d m name i t v.named)) in
+        changes _ name d (on_answer (looks_at c w.state.register d.log) d (Step.sender_node m.from) m.body).reader refl v.named
         (λ q h. others_lines _ name q (on_answer (looks_at c w.state.register d.log) d (Step.sender_node m.from) m.body).reader.until (on_answer (looks_at c w.state.register d.log) d (Step.sender_node m.from) m.body).items h)
-        (λ g. more_got c hs w.state e (Step.read (refreshed w.state f) name (on_answer (looks_at c w.state.register d.log) d (Step.sender_node m.from) m.body)) name d (on_answer (looks_at c w.state.register d.log) d (Step.sender_node m.from) m.body).reader g a.log a.until
+        (λ g. more_got c hs w.state e (Step.read (refreshed w.state f) name (on_answer (looks_at c w.state.register d.log) d (Step.sender_node m.from) m.body)) name d (on_answer (looks_at c w.state.register d.log) d (Step.sender_node m.from) m.body).reader g a.log a.until (same_style (looks_at c w.state.register d.log) d (Step.sender_node m.from) m.body)
         (subst (λ u. TilesTo d.until d.next (lines_from name u (on_answer (looks_at c w.state.register d.log) d (Step.sender_node m.from) m.body)) (on_answer (looks_at c w.state.register d.log) d (Step.sender_node m.from) m.body).reader.next) (sym a.until) a.tiles));
-    polls = λ name d v o. changes _ name d (polled (looks_at c w.state.register d.log) d) refl v.named o (λ q h. refl) (λ g. more_got c hs w.state e _ name d (polled (looks_at c w.state.register d.log) d) g refl refl refl);
+    polls = λ name d v o. changes _ name d (polled (looks_at c w.state.register d.log) d) refl v.named (λ q h. refl) (λ g. more_got c hs w.state e _ name d (polled (looks_at c w.state.register d.log) d) g refl refl refl refl);
     opens = λ style name l from until o x. opens_one style name l from until _ refl refl refl o x;
   } where
-    quiet_something : (x : Line) → is_quiet x ≡ true → is_nothing x ≡ false
-    quiet_something lines.Nothing h = absurd cc
-    quiet_something _ h = refl
+    handled : (f : List ℕ) (x : Node) (n : ℕ) (m : Msg) (o : Option Op) (b : Option Body) → Result (Step.handles (with_node (refreshed w.state f) n x) n m o b)
+    handled f x n m None b = stays (Step.handles (with_node (refreshed w.state f) n x) n m None b) refl nothing_none
+    handled f x n m (Some o) b = stays (Step.handles (with_node (refreshed w.state f) n x) n m (Some o) b) refl (kept_lines_none n [] (keep_end (node_at (with_node (refreshed w.state f) n x) n) o) nothing_none)
 
-    handled : (f : List ℕ) (x : Node) (n : ℕ) (m : Msg) (o : Option Op) (b : Option Body) → Idle c w.state e → Result (Step.handles (with_node (refreshed w.state f) n x) n m o b)
-    handled f x n m None b i = idle_stays (Step.handles (with_node (refreshed w.state f) n x) n m None b) i refl nothing_none
-    handled f x n m (Some o) b i = idle_stays (Step.handles (with_node (refreshed w.state f) n x) n m (Some o) b) i refl (kept_lines_none n [] (keep_end (node_at (with_node (refreshed w.state f) n x) n) o) nothing_none)
-
-    ticked : (n l : ℕ) (t : Ticked) → Idle c w.state e → Result (Step.ticks_as c w.state n l t)
-    ticked n l (Cleans k y) i = idle_stays (Step.ticks_as c w.state n l (Cleans k y)) i refl (kept_lines_none n [] (keep_end (node_at w.state n) (ops.Clean l k y)) nothing_none)
-    ticked n l Rebuilt i = idle_stays (Step.ticks_as c w.state n l Rebuilt) i refl (kept_lines_none n (lines.NodeRebuilt n l ∷ []) (keep_end (node_at w.state n) (ops.Refilled l)) (one_line (lines.NodeRebuilt n l) refl))
-    ticked n l (Asks from) i = idle_stays (Step.ticks_as c w.state n l (Asks from)) i refl nothing_none
-    ticked n l Nothing i = idle_stays (Step.ticks_as c w.state n l Nothing) i refl nothing_none
+    ticked : (n l : ℕ) (t : Ticked) → Result (Step.ticks_as c w.state n l t)
+    ticked n l (Cleans k y) = stays (Step.ticks_as c w.state n l (Cleans k y)) refl (kept_lines_none n [] (keep_end (node_at w.state n) (ops.Clean l k y)) nothing_none)
+    ticked n l Rebuilt = stays (Step.ticks_as c w.state n l Rebuilt) refl (kept_lines_none n (lines.NodeRebuilt n l ∷ []) (keep_end (node_at w.state n) (ops.Refilled l)) (one_line (lines.NodeRebuilt n l) refl))
+    ticked n l (Asks from) = stays (Step.ticks_as c w.state n l (Asks from)) refl nothing_none
+    ticked n l Nothing = stays (Step.ticks_as c w.state n l Nothing) refl nothing_none
 
 abbrev pub Reads : Config → List Happened → World → Type 0
 Reads c hs w = BaseGiven c hs w × AllGot c hs w
@@ -465,7 +410,7 @@ unfolding find_named
 start_got c r = (refl, refl)
 
 pub tiles_kept : (c : Config) → Keeps c (Reads c)
-tiles_kept c = beside_kept c (BaseGiven c) (AllGot c) (given_kept c) (start_got c) (λ hs w e B C A. step_by c (AllGot c) hs w e B.0.0.0 (got_cases c hs w e B.0 B.1 A))
+tiles_kept c = beside_kept c (BaseGiven c) (AllGot c) (given_kept c) (start_got c) (λ hs w e B C A. dispatch c w.state e (λ d m. Unopened c w.state e d → AllGot c (hs ++ told w.state.register e d ∷ []) (became w e d m)) B.0.0.0 (got_cases c hs w e B.0 B.1 A) (no_opening c w.state e))
 
 pub got_of : (c : Config) (hs : List Happened) (w : World) → AllGot c hs w → (s : List ℕ) (d : Reader) → find_named s w.state.readers ≡ Some d → Got c hs s d
 got_of c hs w b s d f = subst (λ (o : Option Reader). GotBy c hs s o) f (b s)

@@ -4,7 +4,6 @@ use Rattle.ld_lsn.specs.Number.{epoch_of}
 use Rattle.ld_safety.proofs.Said.{Said, SaidHere, Reached}
 use Rattle.ld_table.specs.Named.{find_named}
 use Rattle.ld_config.specs.declared.config.Config.{Config}
-use Rattle.ld_schedule.specs.declared.event.Event.{Event}
 use Rattle.ld_transcript.specs.declared.line.Line.{Line}
 use Rattle.ld_transcript.specs.declared.line.Line.TheVariants as lines
 use Rattle.ld_transcript.specs.declared.line.GapKind.TheVariants as gaps
@@ -24,12 +23,12 @@ use Rattle.ld_machine.specs.Disk.{keep_end}
 use Rattle.ld_machine.specs.State.{State, Done, finish, node_at, with_node, with_register}
 use Rattle.ld_machine.specs.Facts.{Happened, Writes, OfLog, ReadsLog, opening_of}
 use Rattle.ld_machine.specs.World.{World, Made, In, begin, made_on}
-use Rattle.ld_machine.specs.Run.{next_world}
+use Rattle.ld_machine.specs.Run.{after_step}
 use Rattle.ld_machine.specs.Step as Step
 use Rattle.ld_safety.proofs.Lists.{not_none, In-append, first_left}
-use Rattle.ld_safety.proofs.Traces.{happened}
+use Rattle.ld_safety.proofs.Traces.{step_happened}
 use Rattle.ld_safety.proofs.Steps.{told, writes_cases}
-use Rattle.ld_safety.proofs.Events.{Cases, dispatch, Live, Reading, refreshed, loaded, is_quiet}
+use Rattle.ld_safety.proofs.Events.{retry_call, Cases, dispatch, Live, Reading, refreshed, loaded, is_quiet}
 use Rattle.ld_safety.proofs.Lines.{Group, OfNodes, OfNumbers, OfActs, OfTrims, OfSets, OfItems, OfMessages, group, AllOf, none_of, one_of, kept_of, format_of, items_of, line_of}
 use Rattle.ld_safety.proofs.ItemLines.{line_cases}
 use Rattle.ld_safety.proofs.ReaderSteps.{answered}
@@ -45,9 +44,11 @@ use Rattle.ld_safety.proofs.ItemFacts.{ClosedItem, RecordAt, BridgeAt}
 use Rattle.ld_safety.proofs.ItemsShown.{ItemsTold, ReadFine, fine_keeps, item_lines_told}
 use Rattle.ld_safety.proofs.Carried as carried
 use Rattle.ld_safety.proofs.AlongSteps as along
+use Rattle.ld_machine.specs.Calm as Calm
+use Rattle.ld_machine.specs.Calm.{Move, event_of}
 
 -- ---- what grows ----
-module _ (c : Config) (hs : List Happened) (e : Event) (d : Done) (made more : List Made) (sent after : List Msg) (r k : Register) (into : (m : Msg) → In m sent → In m after) (u : Up r k) (s : Stays c r k) (fresh : FreshLosses more r) where
+module _ (c : Config) (hs : List Happened) (e : Move) (d : Done) (made more : List Made) (sent after : List Msg) (r k : Register) (into : (m : Msg) → In m sent → In m after) (u : Up r k) (s : Stays c r k) (fresh : FreshLosses more r) where
   item_grows : (l n : ℕ) (x : What) → ClosedItem c hs made sent r l n x → ClosedItem c (hs ++ told r e d ∷ []) (more ++ made) after k l n x
   item_grows l n x h = record { summary = h.summary; closed = closed_grows c hs e d made more sent after r k into u s l (epoch_of n) h.summary h.closed; says = closed_says_grows c hs e d made more sent after r k into u s l n h.summary x h.says; hole = hole_grows c hs e d made more sent after r k into u s l n x fresh h.closed.low h.hole; below = h.below }
 
@@ -108,12 +109,12 @@ module _ (c : Config) (hs : List Happened) (s : State) where
   unfolding AckedTold
   acts_told name q k f A a n i = let z = acted_acked name q k.acts a n i in (q, subst (λ x. find_named x s.sequencers ≡ Some q) (sym z.0) f, A.acked n z.1)
 
-  acked_cases : (e : Event) → ((name : List ℕ) (q : Sequencer) → Live s name q → (m : Msg) → In m s.network.sent → m.to ≡ whos.Sequencer q.epoch → m.log ≡ q.log → ActsFine c hs s.network.sent s.register q (called (looks_at c s.register q.log) s.register (on_reply (looks_at c s.register q.log) q (Step.sender_node m.from) m.body) (on_reply (looks_at c s.register q.log) q (Step.sender_node m.from) m.body).tries))
+  acked_cases : (e : Move) → ((name : List ℕ) (q : Sequencer) → Live s name q → (m : Msg) → In m s.network.sent → m.to ≡ whos.Sequencer q.epoch → m.log ≡ q.log → ActsFine c hs s.network.sent s.register q (called (looks_at c s.register q.log) s.register (on_reply (looks_at c s.register q.log) q (Step.sender_node m.from) m.body) (on_reply (looks_at c s.register q.log) q (Step.sender_node m.from) m.body).tries))
       → ((name : List ℕ) (q : Sequencer) → Live s name q → ActsFine c hs s.network.sent s.register q (called (looks_at c s.register q.log) s.register (on_retry (looks_at c s.register q.log) q) (on_retry (looks_at c s.register q.log) q).tries)) → Cases c s e (λ d m. AckedTold d.lines)
   acked_cases e heard retry = record {
-    still = λ f i. none;
+    still = λ f older i. none;
     says = λ x q. quiets (x ∷ []) (λ y i. one_quiet x q y i);
-    node_hears = λ f n m i t v o. handled (with_node (refreshed s f) n (Step.releases (node_at s n) m.log m.body)) n m (Step.node_handles n (node_at s n) m).op (Step.node_handles n (node_at s n) m).answer;
+    node_hears = λ f older n m i t v o. handled (with_node (refreshed s f) n (Step.releases (node_at s n) m.log m.body)) n m (Step.node_handles n (node_at s n) m).op (Step.node_handles n (node_at s n) m).answer;
     loads = λ n ls q b o. quiets ls q;
     draw_fails = λ n b. nodes (lines.NodeRefusedRegister n ∷ []) (one_of (lines.NodeRefusedRegister n));
     formats = λ n r g b v i. nodes _ (kept_of n (Step.format_lines c n r) (keep_end (node_at (with_register (loaded s n) r) n) (ops.Format (generation_of r n) (epochs_in r.logs))) (format_of c n r));
@@ -123,15 +124,15 @@ module _ (c : Config) (hs : List Happened) (s : State) where
     faults = λ n f o. none;
     sets = λ l r x set g. others OfSets (lines.Set l r x set ∷ []) (λ h. cc) (one_of (lines.Set l r x set));
     arms = λ k done o. none;
-    hears = λ f name q m i t l v o. acts_told name q _ v.named (heard name q v m i t l);
-    retries = λ name q v o. acts_told name q _ v.named (retry name q v);
+    hears = λ f older name q m i t l v o. acts_told name q _ v.named (heard name q v m i t l);
+    retries = λ again name q v o. acts_told name q (retry_call c s q) v.named (retry name q v);
     appends = λ name q p v a i. others OfNumbers (lines.Appended name _ ∷ []) (λ h. cc) (one_of (lines.Appended name _));
     trims = λ name q t v b. others OfTrims (lines.Trimmed name t ∷ []) (λ h. cc) (one_of (lines.Trimmed name t));
     drops = λ name q v o. none;
     activates = λ name l r g n i x. others OfNumbers (lines.Active name _ ∷ []) (λ h. cc) (one_of (lines.Active name _));
     swaps = λ n m l x r q i. quiets (x ∷ []) (λ y i. one_quiet x q y i);
     activate_fails = λ name l x g q. quiets (x ∷ []) (λ y i. one_quiet x q y i);
-    answers = λ f name d m i t v o. others OfItems _ (λ h. cc) (items_of _ name (on_answer (looks_at c s.register d.log) d (Step.sender_node m.from) m.body).reader.until (on_answer (looks_at c s.register d.log) d (Step.sender_node m.from) m.body).items);
+    answers = λ f older name d m i t v o. others OfItems _ (λ h. cc) (items_of _ name (on_answer (looks_at c s.register d.log) d (Step.sender_node m.from) m.body).reader.until (on_answer (looks_at c s.register d.log) d (Step.sender_node m.from) m.body).items);
     polls = λ name d v o. none;
     opens = λ style name l from until o x. none;
   } where
@@ -166,15 +167,15 @@ pub record AllTold (c : Config) (hs : List Happened) (w : World) : Type 0 where
 pub start_told : (c : Config) → AllTold c [] (begin c)
 start_told c = record { acked = λ k name n w. absurd (not_none w.1); records = λ k name n p w. absurd (not_none w.1); batches = λ k name n j p w. absurd (not_none w.1); holes = λ k name low high w. absurd (not_none w.1); bridges = λ k name low high w. absurd (not_none w.1) }
 
-module _ (c : Config) (hs : List Happened) (w : World) (e : Event) (B : Base c hs w) (G : Given c hs w.state) (R : Along c hs w) (A : AllGot c hs w) (T : AllTold c hs w) where
+module _ (c : Config) (hs : List Happened) (w : World) (e : Move) (B : Base c hs w) (G : Given c hs w.state) (R : Along c hs w) (A : AllGot c hs w) (T : AllTold c hs w) where
   d : Done
-  d = Step.happens c w.state e
+  d = Calm.moves c w.state e
 
   -- a reader that is there reads the log that it was opened for
   reads_log : (name : List ℕ) (x : Reader) → find_named name w.state.readers ≡ Some x → ReadsLog c hs x.log name
   reads_log name x f = let g = got_of c hs w A name x f in (g.open_as, g.is, g.log)
 
-  items_now : ItemsTold c hs w.made w.state.network.sent w.state.register w.state (Step.happens c w.state e).lines
+  items_now : ItemsTold c hs w.made w.state.network.sent w.state.register w.state (Calm.moves c w.state e).lines
   items_now = dispatch c w.state e (λ d m. ItemsTold c hs w.made w.state.network.sent w.state.register w.state d.lines) B.0.0 (line_cases c w.state e (ItemsTold c hs w.made w.state.network.sent w.state.register w.state) no_items (λ f name x m i t v o. reads_now f name x m i t v) quiet_items) where
     no_items : (g : Group) (ls : List Line) → (g ≡ OfItems → ⊥) → AllOf g ls → ItemsTold c hs w.made w.state.network.sent w.state.register w.state ls
     no_items g ls n a = record { records = λ name m p i. absurd (n (sym (a _ i))); batches = λ name m j p i. absurd (n (sym (a _ i))); holes = λ name low high i. absurd (n (sym (a _ i))); bridges = λ name low high i. absurd (n (sym (a _ i))) }
@@ -193,44 +194,44 @@ module _ (c : Config) (hs : List Happened) (w : World) (e : Event) (B : Base c h
         (fine_keeps c hs w.made w.state.network.sent w.state.register (along.once_before c hs w e B G R) R.once R.plans R.last x.log (looks_at c w.state.register x.log) x y m.body (R.said.readers name x v.named) o) in
         item_lines_told c hs w.made w.state.network.sent w.state.register w.state (along.once_before c hs w e B G R) R.once R.plans R.last _ name x _ (on_answer (looks_at c w.state.register x.log) x y m.body).items v.named k.items
 
-  acked_now : AckedTold c (hs ++ happened c w.state e ∷ []) w.state (Step.happens c w.state e).lines
-  acked_now = dispatch c w.state e (λ d m. AckedTold c (hs ++ happened c w.state e ∷ []) w.state d.lines) B.0.0 (acked_cases c (hs ++ happened c w.state e ∷ []) w.state e
-      (heard_acts c w.state e (hs ++ happened c w.state e ∷ []) (along.acks_before c hs w e B G R) (along.rows_before c hs w e B G R) (along.stored_told_now c hs w e B G R) (along.cleaned_now c hs w e B G R) (along.numbers_now c hs w e B G R))
-      (retry_acts c w.state e (hs ++ happened c w.state e ∷ []) (along.acks_before c hs w e B G R) (along.rows_before c hs w e B G R) (along.stored_told_now c hs w e B G R) (along.cleaned_now c hs w e B G R) (along.numbers_now c hs w e B G R)))
+  acked_now : AckedTold c (hs ++ step_happened c w.state e ∷ []) w.state (Calm.moves c w.state e).lines
+  acked_now = dispatch c w.state e (λ d m. AckedTold c (hs ++ step_happened c w.state e ∷ []) w.state d.lines) B.0.0 (acked_cases c (hs ++ step_happened c w.state e ∷ []) w.state e
+      (heard_acts c w.state e (hs ++ step_happened c w.state e ∷ []) (along.acks_before c hs w e B G R) (along.rows_before c hs w e B G R) (along.stored_told_now c hs w e B G R) (along.cleaned_now c hs w e B G R) (along.numbers_now c hs w e B G R))
+      (retry_acts c w.state e (hs ++ step_happened c w.state e ∷ []) (along.acks_before c hs w e B G R) (along.rows_before c hs w e B G R) (along.stored_told_now c hs w e B G R) (along.cleaned_now c hs w e B G R) (along.numbers_now c hs w e B G R)))
 
   -- a new line, or one of before
-  line_by : (k : ℕ) (x : Line) → (group x ≡ OfMessages → ⊥) → Writes (hs ++ happened c w.state e ∷ []) k x → Writes hs k x ⊎ In x (Step.happens c w.state e).lines
-  line_by k x n wr = elim (writes_cases hs (happened c w.state e) k x wr) [ inl o ↦ inl o | inr o ↦ inr (line_of (Step.happens c w.state e) x n o.1) ]
+  line_by : (k : ℕ) (x : Line) → (group x ≡ OfMessages → ⊥) → Writes (hs ++ step_happened c w.state e ∷ []) k x → Writes hs k x ⊎ In x (Calm.moves c w.state e).lines
+  line_by k x n wr = elim (writes_cases hs (step_happened c w.state e) k x wr) [ inl o ↦ inl o | inr o ↦ inr (line_of (Calm.moves c w.state e) x n o.1) ]
 
-  pub told_step : AllTold c (hs ++ happened c w.state e ∷ []) (next_world c w e)
+  pub told_step : AllTold c (hs ++ step_happened c w.state e ∷ []) (after_step c w e)
   unfolding AckedTold finish
   told_step = record {
     acked = λ k name n wr. elim (line_by k (lines.Acked name n) (λ h. cc) wr) [
-      | inl o ↦ (let z = T.acked k name n o in (z.0, of_log_grows hs w.state.register e (Step.happens c w.state e) z.0 name z.1, along.acks_both c hs w e B G R z.0 n z.2))
-      | inr o ↦ (let z = acked_now name n o in (z.0.log, of_log_grows hs w.state.register e (Step.happens c w.state e) z.0.log name (counts_of c hs w B name z.0 z.1).known, along.acks_after c hs w e B G R z.0.log n z.2))
+      | inl o ↦ (let z = T.acked k name n o in (z.0, of_log_grows hs w.state.register e (Calm.moves c w.state e) z.0 name z.1, along.acks_both c hs w e B G R z.0 n z.2))
+      | inr o ↦ (let z = acked_now name n o in (z.0.log, of_log_grows hs w.state.register e (Calm.moves c w.state e) z.0.log name (counts_of c hs w B name z.0 z.1).known, along.acks_after c hs w e B G R z.0.log n z.2))
     ];
     records = λ k name n p wr. elim (line_by k (lines.Record name n p) (λ h. cc) wr) [
-      | inl o ↦ (let z = T.records k name n p o in (z.0, reads_grows c hs (happened c w.state e) z.0 name z.1, record_next z.0 n z.2))
-      | inr o ↦ (let z = items_now.records name n p o in (z.0.log, reads_grows c hs (happened c w.state e) z.0.log name (reads_log name z.0 z.1), record_next z.0.log n z.2))
+      | inl o ↦ (let z = T.records k name n p o in (z.0, reads_grows c hs (step_happened c w.state e) z.0 name z.1, record_next z.0 n z.2))
+      | inr o ↦ (let z = items_now.records name n p o in (z.0.log, reads_grows c hs (step_happened c w.state e) z.0.log name (reads_log name z.0 z.1), record_next z.0.log n z.2))
     ];
     batches = λ k name n j p wr. elim (line_by k (lines.BatchMessage name n j p) (λ h. cc) wr) [
-      | inl o ↦ (let z = T.batches k name n j p o in (z.0, reads_grows c hs (happened c w.state e) z.0 name z.1, record_next z.0 n z.2))
-      | inr o ↦ (let z = items_now.batches name n j p o in (z.0.log, reads_grows c hs (happened c w.state e) z.0.log name (reads_log name z.0 z.1), record_next z.0.log n z.2))
+      | inl o ↦ (let z = T.batches k name n j p o in (z.0, reads_grows c hs (step_happened c w.state e) z.0 name z.1, record_next z.0 n z.2))
+      | inr o ↦ (let z = items_now.batches name n j p o in (z.0.log, reads_grows c hs (step_happened c w.state e) z.0.log name (reads_log name z.0 z.1), record_next z.0.log n z.2))
     ];
     holes = λ k name low high wr. elim (line_by k (lines.Gap name gaps.Hole low high) (λ h. cc) wr) [
-      | inl o ↦ (let z = T.holes k name low high o in (z.0, reads_grows c hs (happened c w.state e) z.0 name z.1, z.2, item_next z.0 low z.3))
-      | inr o ↦ (let z = items_now.holes name low high o in (z.0.log, reads_grows c hs (happened c w.state e) z.0.log name (reads_log name z.0 z.1), z.2, item_next z.0.log low z.3))
+      | inl o ↦ (let z = T.holes k name low high o in (z.0, reads_grows c hs (step_happened c w.state e) z.0 name z.1, z.2, item_next z.0 low z.3))
+      | inr o ↦ (let z = items_now.holes name low high o in (z.0.log, reads_grows c hs (step_happened c w.state e) z.0.log name (reads_log name z.0 z.1), z.2, item_next z.0.log low z.3))
     ];
     bridges = λ k name low high wr. elim (line_by k (lines.Gap name gaps.Bridge low high) (λ h. cc) wr) [
-      | inl o ↦ (let z = T.bridges k name low high o in (z.0, reads_grows c hs (happened c w.state e) z.0 name z.1, bridge_next z.0 low high z.2))
-      | inr o ↦ (let z = items_now.bridges name low high o in (z.0.log, reads_grows c hs (happened c w.state e) z.0.log name (reads_log name z.0 z.1), bridge_next z.0.log low high z.2))
+      | inl o ↦ (let z = T.bridges k name low high o in (z.0, reads_grows c hs (step_happened c w.state e) z.0 name z.1, bridge_next z.0 low high z.2))
+      | inr o ↦ (let z = items_now.bridges name low high o in (z.0.log, reads_grows c hs (step_happened c w.state e) z.0.log name (reads_log name z.0 z.1), bridge_next z.0.log low high z.2))
     ];
   } where
-    record_next : (l n : ℕ) → RecordAt c hs w.made w.state.network.sent w.state.register l n → RecordAt c (hs ++ happened c w.state e ∷ []) (made_on c w.state e ++ w.made) (next_world c w e).state.network.sent (next_world c w e).state.register l n
-    record_next = record_grows c hs e (Step.happens c w.state e) w.made (made_on c w.state e) w.state.network.sent (finish (Step.happens c w.state e)).state.network.sent w.state.register (Step.happens c w.state e).state.register (along.into_after c hs w e B G R) (along.follow c hs w e B G R).0 (along.stays c hs w e B G R) (along.fresh_losses c hs w e B G R)
+    record_next : (l n : ℕ) → RecordAt c hs w.made w.state.network.sent w.state.register l n → RecordAt c (hs ++ step_happened c w.state e ∷ []) (made_on c w.state (event_of e) ++ w.made) (after_step c w e).state.network.sent (after_step c w e).state.register l n
+    record_next = record_grows c hs e (Calm.moves c w.state e) w.made (made_on c w.state (event_of e)) w.state.network.sent (finish (Calm.moves c w.state e)).state.network.sent w.state.register (Calm.moves c w.state e).state.register (along.into_after c hs w e B G R) (along.follow c hs w e B G R).0 (along.stays c hs w e B G R) (along.fresh_losses c hs w e B G R)
 
-    item_next : (l n : ℕ) → ClosedItem c hs w.made w.state.network.sent w.state.register l n Hole → ClosedItem c (hs ++ happened c w.state e ∷ []) (made_on c w.state e ++ w.made) (next_world c w e).state.network.sent (next_world c w e).state.register l n Hole
-    item_next l n = item_grows c hs e (Step.happens c w.state e) w.made (made_on c w.state e) w.state.network.sent (finish (Step.happens c w.state e)).state.network.sent w.state.register (Step.happens c w.state e).state.register (along.into_after c hs w e B G R) (along.follow c hs w e B G R).0 (along.stays c hs w e B G R) (along.fresh_losses c hs w e B G R) l n Hole
+    item_next : (l n : ℕ) → ClosedItem c hs w.made w.state.network.sent w.state.register l n Hole → ClosedItem c (hs ++ step_happened c w.state e ∷ []) (made_on c w.state (event_of e) ++ w.made) (after_step c w e).state.network.sent (after_step c w e).state.register l n Hole
+    item_next l n = item_grows c hs e (Calm.moves c w.state e) w.made (made_on c w.state (event_of e)) w.state.network.sent (finish (Calm.moves c w.state e)).state.network.sent w.state.register (Calm.moves c w.state e).state.register (along.into_after c hs w e B G R) (along.follow c hs w e B G R).0 (along.stays c hs w e B G R) (along.fresh_losses c hs w e B G R) l n Hole
 
-    bridge_next : (l low high : ℕ) → BridgeAt c hs w.made w.state.network.sent w.state.register l low high → BridgeAt c (hs ++ happened c w.state e ∷ []) (made_on c w.state e ++ w.made) (next_world c w e).state.network.sent (next_world c w e).state.register l low high
-    bridge_next = bridge_grows c hs e (Step.happens c w.state e) w.made (made_on c w.state e) w.state.network.sent (finish (Step.happens c w.state e)).state.network.sent w.state.register (Step.happens c w.state e).state.register (along.into_after c hs w e B G R) (along.follow c hs w e B G R).0 (along.stays c hs w e B G R) (along.fresh_losses c hs w e B G R)
+    bridge_next : (l low high : ℕ) → BridgeAt c hs w.made w.state.network.sent w.state.register l low high → BridgeAt c (hs ++ step_happened c w.state e ∷ []) (made_on c w.state (event_of e) ++ w.made) (after_step c w e).state.network.sent (after_step c w e).state.register l low high
+    bridge_next = bridge_grows c hs e (Calm.moves c w.state e) w.made (made_on c w.state (event_of e)) w.state.network.sent (finish (Calm.moves c w.state e)).state.network.sent w.state.register (Calm.moves c w.state e).state.register (along.into_after c hs w e B G R) (along.follow c hs w e B G R).0 (along.stays c hs w e B G R) (along.fresh_losses c hs w e B G R)

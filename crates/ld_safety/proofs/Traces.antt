@@ -10,21 +10,22 @@ use Rattle.ld_config.specs.declared.config.Config.{Config}
 use Rattle.ld_msg.specs.Network.{oldest_new}
 use Rattle.ld_machine.specs.State.{State, Stepped, finish, or_none}
 use Rattle.ld_machine.specs.Step.{happens, delivers}
+use Rattle.ld_machine.specs.Calm.{Left, Next, moved, event_of, next_of, all_left, calm_fuel, steps_from, calmed}
 use Rattle.ld_machine.specs.Facts.{Happened}
 use Rattle.ld_machine.specs.World.{World, begin}
-use Rattle.ld_machine.specs.Run.{Went, Move, Takes, flow_steps, flow_moves, flows, one_step, made_by, steps_of, moves_of, step, history_from, history, moves_from, moves, lines_of, state_after, next_world, world_after}
-pub use Rattle.ld_machine.specs.Run.{happened, trace}
+use Rattle.ld_machine.specs.Run.{Went, Move, Takes, flow_steps, flow_moves, flows, calm_steps, one_step, made_by, steps_of, moves_of, step, history_from, history, moves_from, moves, lines_of, state_after, after_step, next_world, world_after, happened}
+pub use Rattle.ld_machine.specs.Run.{step_happened, trace}
 use Rattle.ld_safety.specs.OneRun.{says_something, lines_in, LinesAreTheSteps, StepsAreTheTrace}
 
 trace-append : (c : Config) (w : World) (es fs : List Move) → trace c w (es ++ fs) ≡ trace c w es ++ trace c (world_after c w es) fs
 unfolding world_after
 trace-append c w [] fs = refl
-trace-append c w (Takes e ∷ es) fs = ap (λ t. happened c w.state e ∷ t) (trace-append c (next_world c w e) es fs)
+trace-append c w (e ∷ es) fs = ap (λ t. step_happened c w.state e ∷ t) (trace-append c (after_step c w e) es fs)
 
 after-append : (c : Config) (w : World) (es fs : List Move) → world_after c w (es ++ fs) ≡ world_after c (world_after c w es) fs
 unfolding world_after
 after-append c w [] fs = refl
-after-append c w (Takes e ∷ es) fs = after-append c (next_world c w e) es fs
+after-append c w (e ∷ es) fs = after-append c (after_step c w e) es fs
 
 abbrev telling : List Line → List Line
 telling ls = filter says_something ls
@@ -56,6 +57,25 @@ flow_same : (k : ℕ) (c : Config) (w : World) → SameSteps c w (flow_steps k c
 unfolding world_after
 flow_same zero c w = record { steps = refl; state = refl; reached = refl; lines = refl }
 flow_same (suc k) c w = flow_case k c w (λ v. flow_same k c v) (oldest_new w.state.network)
+
+-- so are the steps of a calm
+calm_case : (k : ℕ) (c : Config) (w : World) → ((v : World) (ps : List Left) → SameSteps c v (calm_steps k c v.state ps) (calmed k c v.state ps) (steps_from k c v.state ps)) → (o : Option Next) → SameSteps c w
+    (elim o as (λ _. Went) [ None ↦ record { state = w.state; happened = [] } | Some x ↦ (let r : Stepped = moved c w.state x.move in let rest : Went = calm_steps k c r.state x.left in record { state = rest.state; happened = made_by w.state (event_of x.move) r ∷ rest.happened }) ])
+    (elim o as (λ _. Stepped) [ None ↦ record { state = w.state; lines = [] } | Some x ↦ (let r : Stepped = moved c w.state x.move in let rest : Stepped = calmed k c r.state x.left in record { state = rest.state; lines = r.lines ++ rest.lines }) ])
+    (elim o as (λ _. List Move) [ None ↦ [] | Some x ↦ x.move ∷ steps_from k c (moved c w.state x.move).state x.left ])
+unfolding world_after
+calm_case k c w ih None = record { steps = refl; state = refl; reached = refl; lines = refl }
+calm_case k c w ih (Some x) = let v = after_step c w x.move in let ls : List Line = (moved c w.state x.move).lines in let r = ih v x.left in record {
+  steps = ap (λ t. step_happened c w.state x.move ∷ t) r.steps;
+  state = r.state;
+  reached = r.reached;
+  lines = filter-append says_something ls (lines_in (calm_steps k c v.state x.left).happened) ∙ ap (λ t. telling ls ++ t) r.lines ∙ sym (filter-append says_something ls (calmed k c v.state x.left).lines);
+}
+
+calm_same : (k : ℕ) (c : Config) (w : World) (ps : List Left) → SameSteps c w (calm_steps k c w.state ps) (calmed k c w.state ps) (steps_from k c w.state ps)
+unfolding calm_steps calmed steps_from world_after
+calm_same zero c w ps = record { steps = refl; state = refl; reached = refl; lines = refl }
+calm_same (suc k) c w ps = calm_case k c w (λ v qs. calm_same k c v qs) (next_of c w.state ps)
 
 no_none : (ls : List Line) → telling ls ≡ telling (or_none ls)
 no_none [] = refl
@@ -89,6 +109,7 @@ event_same c w (events.Fail n k) = one_same c w (events.Fail n k)
 event_same c w (events.Tear n k p) = one_same c w (events.Tear n k p)
 event_same c w (events.Set l r x set) = one_same c w (events.Set l r x set)
 event_same c w (events.Replace n other l) = one_same c w (events.Replace n other l)
+event_same c w events.Calm = let r = calm_same (calm_fuel c w.state) c w (all_left c w.state) in record { steps = r.steps; state = r.state; reached = r.reached; lines = r.lines ∙ no_none (calmed (calm_fuel c w.state) c w.state (all_left c w.state)).lines }
 event_same c w (events.RegFail k done) = one_same c w (events.RegFail k done)
 
 -- so are the steps of a run
@@ -130,16 +151,16 @@ steps_are_the_trace c es = let r = run_same c (begin c) es in (sym r.steps, r.st
 -- P is a relation between the steps so far and the world that they lead to
 pub record Keeps (c : Config) (P : List Happened → World → Type 0) : Type 0 where
   pub begins : P [] (begin c)
-  pub goes_on : (hs : List Happened) (w : World) (e : Event) → P hs w → P (hs ++ happened c w.state e ∷ []) (next_world c w e)
+  pub goes_on : (hs : List Happened) (w : World) (e : Move) → P hs w → P (hs ++ step_happened c w.state e ∷ []) (after_step c w e)
 
 -- the step of a place, with the steps and the world before it
 pub record Moment (c : Config) (P : List Happened → World → Type 0) (hs : List Happened) (k : ℕ) (h : Happened) : Type 0 where
   pub before : List Happened
   pub after : List Happened
   pub world : World
-  pub event : Event
+  pub move : Move
   pub holds : P before world
-  pub is : h ≡ happened c world.state event
+  pub is : h ≡ step_happened c world.state move
   pub split : hs ≡ before ++ (h ∷ after)
   pub place : length before ≡ k
 
@@ -147,27 +168,27 @@ module _ (c : Config) (P : List Happened → World → Type 0) (K : Keeps c P) w
   pub later : (hs : List Happened) (w : World) (es : List Move) → P hs w → P (hs ++ trace c w es) (world_after c w es)
   unfolding world_after
   later hs w [] p = subst (λ t. P t w) (sym (append-nil hs)) p
-  later hs w (Takes e ∷ es) p = subst (λ t. P t (world_after c (next_world c w e) es)) (append_assoc hs (happened c w.state e ∷ []) (trace c (next_world c w e) es))
-      (later (hs ++ happened c w.state e ∷ []) (next_world c w e) es (K.goes_on hs w e p))
+  later hs w (e ∷ es) p = subst (λ t. P t (world_after c (after_step c w e) es)) (append_assoc hs (step_happened c w.state e ∷ []) (trace c (after_step c w e) es))
+      (later (hs ++ step_happened c w.state e ∷ []) (after_step c w e) es (K.goes_on hs w e p))
 
   -- it holds at the end
   pub at_end : (es : List Event) → (w : World) × P (history c es) w
   at_end es = (world_after c (begin c) (moves c es), subst (λ t. P t (world_after c (begin c) (moves c es))) (sym (history_same c es)) (later [] (begin c) (moves c es) K.begins))
 
-  moved : {hs gs : List Happened} {j k : ℕ} {h : Happened} → hs ≡ gs → j ≡ k → Moment c P hs j h → Moment c P gs k h
-  moved e f m = record { before = m.before; after = m.after; world = m.world; event = m.event; holds = m.holds; is = m.is; split = sym e ∙ m.split; place = m.place ∙ f }
+  placed : {hs gs : List Happened} {j k : ℕ} {h : Happened} → hs ≡ gs → j ≡ k → Moment c P hs j h → Moment c P gs k h
+  placed e f m = record { before = m.before; after = m.after; world = m.world; move = m.move; holds = m.holds; is = m.is; split = sym e ∙ m.split; place = m.place ∙ f }
 
   moment_later : (hs : List Happened) (w : World) (es : List Move) (k : ℕ) (h : Happened) → P hs w → slice_get (trace c w es) k ≡ Some h → Moment c P (hs ++ trace c w es) (length hs + k) h
   moment_later hs w [] k h p g = absurd cc
-  moment_later hs w (Takes e ∷ es) zero h p g = record { before = hs; after = trace c (next_world c w e) es; world = w; event = e; holds = p; is = cc; split = let q : h ≡ happened c w.state e = cc in ap (λ t. hs ++ (t ∷ trace c (next_world c w e) es)) (sym q); place = omega arith }
-  moment_later hs w (Takes e ∷ es) (suc k) h p g =
-      moved (append_assoc hs (happened c w.state e ∷ []) (trace c (next_world c w e) es)) (let n = length-append hs (happened c w.state e ∷ []) in omega arith)
-      (moment_later (hs ++ happened c w.state e ∷ []) (next_world c w e) es k h (K.goes_on hs w e p) g)
+  moment_later hs w (e ∷ es) zero h p g = record { before = hs; after = trace c (after_step c w e) es; world = w; move = e; holds = p; is = cc; split = let q : h ≡ step_happened c w.state e = cc in ap (λ t. hs ++ (t ∷ trace c (after_step c w e) es)) (sym q); place = omega arith }
+  moment_later hs w (e ∷ es) (suc k) h p g =
+      placed (append_assoc hs (step_happened c w.state e ∷ []) (trace c (after_step c w e) es)) (let n = length-append hs (step_happened c w.state e ∷ []) in omega arith)
+      (moment_later (hs ++ step_happened c w.state e ∷ []) (after_step c w e) es k h (K.goes_on hs w e p) g)
 
   -- and before each step
   pub at_step : (es : List Event) (k : ℕ) (h : Happened) → slice_get (history c es) k ≡ Some h → Moment c P (history c es) k h
   at_step es k h g = let s = history_same c es in
-      moved (sym s) (omega arith) (moment_later [] (begin c) (moves c es) k h K.begins (subst (λ t. slice_get t k ≡ Some h) s g))
+      placed (sym s) (omega arith) (moment_later [] (begin c) (moves c es) k h K.begins (subst (λ t. slice_get t k ≡ Some h) s g))
 
 -- two that are kept are kept together
 pub both_kept : (c : Config) (P Q : List Happened → World → Type 0) → Keeps c P → Keeps c Q → Keeps c (λ hs w. P hs w × Q hs w)
@@ -175,6 +196,6 @@ both_kept c P Q a b = record { begins = (a.begins, b.begins); goes_on = λ hs w 
 
 -- what is kept where something else is
 pub beside_kept : (c : Config) (B P : List Happened → World → Type 0) → Keeps c B → P [] (begin c)
-    → ((hs : List Happened) (w : World) (e : Event) → B hs w → B (hs ++ happened c w.state e ∷ []) (next_world c w e) → P hs w → P (hs ++ happened c w.state e ∷ []) (next_world c w e))
+    → ((hs : List Happened) (w : World) (e : Move) → B hs w → B (hs ++ step_happened c w.state e ∷ []) (after_step c w e) → P hs w → P (hs ++ step_happened c w.state e ∷ []) (after_step c w e))
     → Keeps c (λ hs w. B hs w × P hs w)
 beside_kept c B P a b k = record { begins = (a.begins, b); goes_on = λ hs w e p. let n = a.goes_on hs w e p.0 in (n, k hs w e p.0 n p.1) }

@@ -2,3 +2,4 @@ pub mod Closes
 pub mod Lost
 pub mod OneRun
 pub mod OneCopy
+pub mod Together

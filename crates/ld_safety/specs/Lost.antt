@@ -6,7 +6,6 @@ use Rattle.ld_table.specs.Words.{is_in, how_many}
 use Rattle.ld_lsn.specs.Number.{esn_of, home_epoch}
 use Rattle.ld_config.specs.declared.config.Config.{Config}
 use Rattle.ld_config.specs.Bounds.{IsInBounds}
-use Rattle.ld_schedule.specs.declared.event.Event.{Event}
 use Rattle.ld_transcript.specs.declared.line.Line.TheVariants as lines
 use Rattle.ld_transcript.specs.declared.line.GapKind.TheVariants as gaps
 use Rattle.ld_msg.specs.declared.msg.Summary.{Summary}
@@ -18,7 +17,8 @@ use Rattle.ld_machine.specs.Disk.{Node, Cut}
 use Rattle.ld_machine.specs.State.{node_at}
 use Rattle.ld_machine.specs.Facts.{Writes, Lost, standing, stands_for, stands_lost}
 use Rattle.ld_machine.specs.World.{World, Made, In, HasPlan, begin, MayHold, has_append, has_settled, made_on}
-use Rattle.ld_machine.specs.Run.{Move, Takes, after_step, world_after, step_happened, trace}
+use Rattle.ld_machine.specs.Calm.{event_of}
+use Rattle.ld_machine.specs.Run.{Move, after_step, world_after, step_happened, trace}
 use Rattle.ld_machine.specs.Invariant.{Closed, Ready}
 use Rattle.ld_machine.specs.Losses.{Completes, EndsAsLoss}
 use Rattle.ld_safety.specs.Closes.{ClosedFully, ClosedShort}
@@ -108,10 +108,10 @@ CopiesWereLost = (c : Config) (name : List ℕ) (l s round : ℕ) (before : List
 -- one of these steps made the plan, and before that step as many of the nodes that were fixed for the epoch as it has copies stood lost for it in the lines
 pub record MadeOfLost (c : Config) (steps : List Move) (l e : ℕ) (plan : Made) : Type 0 where
   pub earlier : List Move
-  pub event : Event
+  pub move : Move
   pub after : List Move
-  pub split : steps ≡ earlier ++ Takes event ∷ after
-  pub makes : In plan (made_on c (world_after c (begin c) earlier).state event)
+  pub split : steps ≡ earlier ++ move ∷ after
+  pub makes : In plan (made_on c (world_after c (begin c) earlier).state (event_of move))
   pub stood : (fixed_of c (world_after c (begin c) earlier).state.register l e).r ≤ how_many (stands_lost l e (trace c (begin c) earlier)) (fixed_at c (world_after c (begin c) earlier).state.register l e)
 
 -- the epoch has a plan that says what is lost, and it was made so
@@ -127,3 +127,19 @@ abbrev pub LossesWereTold : Type 0
 LossesWereTold = (c : Config) (name : List ℕ) (low high n : ℕ) (before : List Move) (gives : Move) (d : Reader) → IsInBounds c → find_named name (world_after c (begin c) before).state.readers ≡ Some d →
     In (lines.Gap name gaps.DataLoss low high) (step_happened c (world_after c (begin c) before).state gives).lines → (Completes (world_after c (begin c) before) d gives → low ≡ d.next → high ≡ d.next → ⊥) → low ≤ n → n ≤ high →
     LossPlanned c before d.log (home_epoch n)
+
+-- ---- losses that are confirmed ----
+
+-- a step before sent the confirming asks, so that the reader's loss ends so
+pub record LossAsked (c : Config) (name : List ℕ) (l s : ℕ) (before : List Move) (gives : Move) : Type 0 where
+  pub round : ℕ
+  pub earlier : List Move
+  pub asks : Move
+  pub between : List Move
+  pub split : before ≡ earlier ++ asks ∷ between
+  pub ends : EndsAsLoss c name l s round earlier asks between gives
+
+-- the one number that is excepted there is one whose asks were sent in a step before
+abbrev pub LossesWereAsked : Type 0
+LossesWereAsked = (c : Config) (name : List ℕ) (s : ℕ) (before : List Move) (gives : Move) (d : Reader) → find_named name (world_after c (begin c) before).state.readers ≡ Some d →
+    In (lines.Gap name gaps.DataLoss s s) (step_happened c (world_after c (begin c) before).state gives).lines → Completes (world_after c (begin c) before) d gives → s ≡ d.next → LossAsked c name d.log s before gives

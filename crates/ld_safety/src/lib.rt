@@ -7,19 +7,20 @@ ghost use Rattle.ld_msg.specs.declared.msg.Summary.{Summary};
 ghost use Rattle.ld_config.specs.declared.config.Config.{Config};
 ghost use Rattle.ld_config.specs.Bounds.{IsInBounds};
 ghost use Rattle.ld_schedule.specs.declared.event.Event.{Event};
-ghost use Rattle.ld_machine.specs.Safe.{BatchesWereAppended, ItemsTile, LossesHappened, NothingHidden, NumbersDiffer, NumbersRise, RecordsWereAppended, Safe, TrimsWereIssued};
+ghost use Rattle.ld_machine.specs.Safe.{AcksWereAppended, BatchesWereAppended, ItemsTile, LossesHappened, NothingHidden, NumbersDiffer, NumbersHaveEpochs, NumbersRise, OneNumber, RecordsWereAppended, ReleasesWereAcked, Safe, StylesAreKept, TrimsWereIssued};
 ghost use Rattle.ld_transcript.specs.declared.line.Line.TheVariants.{NodeRebuilt, NodeWiped};
 ghost use Rattle.ld_op.specs.Plain.{Plain, log_of};
 ghost use Rattle.ld_op.specs.Ticks.{missing};
 ghost use Rattle.ld_machine.specs.Config.{fixed_of, spec_of};
 ghost use Rattle.ld_machine.specs.State.{node_at};
-ghost use Rattle.ld_machine.specs.Facts.{Lost, Writes, standing, stands_for};
+ghost use Rattle.ld_machine.specs.Facts.{Writes};
 ghost use Rattle.ld_machine.specs.World.{MayHold, Stored, begin, chosen};
-ghost use Rattle.ld_machine.specs.Run.{InvariantHolds, Move, history, trace, world_after};
+ghost use Rattle.ld_machine.specs.Run.{Move, history, trace, world_after};
 ghost use Rattle.ld_machine.specs.Invariant.{Acked, Agrees, AppendsOf, BallotsDrawn, Closed, CopiesOf, CopyAt, EntriesAreItems, Epoch, GenerationsDrawn, HasLoss, HeldWasSent, IsOpen, LossesLast, LossesSay, LossesWereGone, OnePlan, OpenTrims, Ready, ReleasesAcked, Retains, SealsHold, SequencersDrawn, ShortCopies, StandsOn, SummariesAgree, TrimsIssued};
 ghost use Rattle.ld_safety.specs.Closes.{ClosesSay, FullOrShort};
-ghost use Rattle.ld_safety.specs.Lost.{CopiesWereLost, LossesWereSeen, LossesWereTold, LostOnce, WholeStays, may_be_lost};
+ghost use Rattle.ld_safety.specs.Lost.{CopiesWereLost, LossesWereAsked, LossesWereSeen, LossesWereTold, LostOnce, WholeStays};
 ghost use Rattle.ld_safety.specs.OneCopy.{OneSends};
+ghost use Rattle.ld_safety.specs.Together.{AllHold, LostInLines};
 ghost use Rattle.ld_safety.specs.OneRun.{LinesAreTheSteps, StepsAreTheTrace};
 
 /// But for `none`, the lines of a run's steps are those of its transcript.
@@ -47,6 +48,20 @@ pub fn numbers_differ()
     ensures { (c : Config) (es : List Event) → IsInBounds c → NumbersDiffer (history c es) }
 {}
 
+/// A step appends one number at most, which has its sequencer's epoch: the one that was told active before, and no other one
+/// was.
+pub fn numbers_have_epochs()
+    ensures one { (c : Config) (es : List Event) → IsInBounds c → OneNumber (history c es) }
+    ensures epochs { (c : Config) (es : List Event) → IsInBounds c → NumbersHaveEpochs (history c es) }
+{}
+
+/// A number that is acknowledged was appended before. A released number isn't past its sequencer's epoch, which was told
+/// active before, and each number of the epoch up to it was acknowledged by then; it may be the end of an epoch before.
+pub fn numbers_were_appended()
+    ensures acked { (c : Config) (es : List Event) → IsInBounds c → AcksWereAppended (history c es) }
+    ensures released { (c : Config) (es : List Event) → IsInBounds c → ReleasesWereAcked (history c es) }
+{}
+
 /// A record that a reader gets is the payload that was appended under its number before.
 pub fn records_were_appended()
     ensures { (c : Config) (es : List Event) → IsInBounds c → RecordsWereAppended c (history c es) }
@@ -55,6 +70,11 @@ pub fn records_were_appended()
 /// The step that gives a reader a message of a batch gives it all messages of the payload that was appended under its number before, one after the other in their order, and no other message of that number.
 pub fn batches_were_appended()
     ensures { (c : Config) (es : List Event) → IsInBounds c → BatchesWereAppended c (history c es) }
+{}
+
+/// A reader of messages gets no record that is a batch, and one of records gets no message.
+pub fn styles_are_kept()
+    ensures { (c : Config) (es : List Event) → IsInBounds c → StylesAreKept c (history c es) }
 {}
 
 /// No hole or bridge that a reader gets holds a number that was acknowledged, or read as a record or a message, earlier or later.
@@ -179,7 +199,7 @@ pub fn rebuilt_once()
 
 /// In every state, a node that may be lost for an epoch of a log stands lost for it in the lines.
 pub fn lost_stands_in_lines()
-    ensures { (c : Config) (ms : List Move) → IsInBounds c → (y l e : ℕ) → may_be_lost l e (node_at (world_after c (begin c) ms).state y) ≡ true → stands_for e (standing y l (trace c (begin c) ms) Lost) ≡ true }
+    ensures { (c : Config) (ms : List Move) → IsInBounds c → LostInLines (trace c (begin c) ms) (world_after c (begin c) ms) }
 {}
 
 /// A node that is lost for an epoch under a generation, and is so at a later moment, was so at each moment between.
@@ -207,12 +227,20 @@ pub fn losses_were_told()
     ensures { LossesWereTold }
 {}
 
-/// Every run is safe: what readers get tiles their numbers, records and batches were appended before, nothing that was acknowledged or read is hidden, trims were issued, losses happened, and the numbers of appends rise and differ.
+/// The one number that is excepted there, whose confirmation the step completes, was confirmed: a step before sent the confirming asks of the round, so that what holds of a confirmed loss holds of it.
+pub fn losses_were_asked()
+    ensures { LossesWereAsked }
+{}
+
+/// Every run is safe: what readers get tiles their numbers, records and batches were appended before, each reader gets records or messages as it was opened, nothing that was acknowledged or read is hidden, trims were issued, losses happened, the numbers of appends rise and differ, one a step, each of its sequencer's epoch, and what is acknowledged or released was appended before.
 pub fn every_run_is_safe()
     ensures { (c : Config) (es : List Event) → IsInBounds c → Safe c (history c es) }
 {}
 
-/// The invariant of the written machine holds in every state of every run: its parts, which are laws above, at once.
+/// All that holds along every run, at once: in every state the invariant of the written machine, how epochs are closed, that
+/// what may be lost stands so in the lines, and that one node alone sends a record where one copy is asked for; and between
+/// states, that a node is lost once under a generation, and one that isn't stays so until it is wiped. The parts are laws
+/// above.
 pub fn invariants_hold()
-    ensures { InvariantHolds }
+    ensures { AllHold }
 {}

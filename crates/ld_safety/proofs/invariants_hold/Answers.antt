@@ -2,4 +2,4 @@ use Rattle.ld_safety.proofs.Invariants as invariants
 use Rattle.ld_safety.proofs.invariants_hold.Goals as goal
 
 pub returns : goal.returns
-returns c = invariants.invariants_hold
+returns c = invariants.all_hold
