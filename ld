@@ -1,12 +1,24 @@
 #!/usr/bin/env bash
-# Runs the program `ld` with the words and the standard input that it is given. Where the program isn't built, or is
-# older than its sources, it is proved and built first; how far that is goes to standard error.
+# Runs the program `ld` with the arguments and the standard input that it is given. Where the program isn't built, or is
+# older than its sources, it is proved and built first, by one call at a time; how far that is goes to standard error.
+# The usage and the version are printed without it.
 set -u
 top=$(cd "$(dirname "${BASH_SOURCE[0]}")" && pwd) || exit 1
 program=$top/crates/ld/out/ld
 is_current() {
   [ -x "$program" ] && [ -z "$(find "$top/crates" "$top/crates.txt" \( -path '*/out' -o -path '*/ld_tests_*' \) -prune -o \
     \( -name '*.rt' -o -name '*.antt' -o -name crates.txt \) -newer "$program" -print -quit)" ]
+}
+
+# the program's own text, which it writes to standard error where its arguments are refused
+print_usage() {
+  sed -n '/^const USAGE: &str = "/,/";$/ { s/^const USAGE: &str = "//; s/";$//; s/^ld: \{0,1\}//; p; }' "$top/crates/ld/src/causes.rt" || exit 1
+  printf '\ndocs/commands.md says what each command does, and with which statuses it ends.\n'
+}
+
+# the newest tag and what came behind it, or the commit
+print_version() {
+  printf 'ld %s\n' "$(git --git-dir="$top/.git" describe --tags --always 2> /dev/null || echo unreleased)"
 }
 
 # how many crates of how many are proved, the crate that is proved now, and the time so far
@@ -25,7 +37,7 @@ prove_and_build() {
   if [ -t 2 ]; then begin=$'\r\e[K' end=; fi
   echo "ld: proving and building the program: some minutes, or an hour where nothing is proved on this machine yet" >&2
   # `rt run` also runs what it built: on the stored run, whose output is of no use here
-  (cd "$top/crates/ld" && exec rt run -- replay < stdin) > "$built" 2>&1 &
+  (cd "$top/crates/ld" && exec rt run -- replay < stdin) > "$built" 2>&1 {lock}<&- &
   while kill -0 $! 2> /dev/null; do
     say_progress
     sleep 2
@@ -35,16 +47,42 @@ prove_and_build() {
   return $made
 }
 
-if ! is_current; then
-  built=$(mktemp) || exit 1
-  trap 'rm -f "$built"' EXIT
-  if ! prove_and_build; then
-    cat "$built" >&2
-    echo "ld: the program wasn't built" >&2
+# Locks this file, so that of several calls one builds; the others wait, and find the program built.
+build_once() {
+  local lock built
+  if ! command -v rt > /dev/null; then
+    echo "ld: the program isn't built, and there is no \`rt\` to build it: put the Rattle kit's folder with it on the PATH (README.md, Build)" >&2
     exit 1
   fi
-  rm -f "$built"
-  trap - EXIT
-  touch "$program"
-fi
+  exec {lock}< "${BASH_SOURCE[0]}"
+  if ! flock --nonblock "$lock"; then
+    echo "ld: another call is building the program: waiting for it" >&2
+    flock "$lock"
+  fi
+  if ! is_current; then
+    built=$(mktemp) || exit 1
+    trap 'rm -f "$built"' EXIT
+    if ! prove_and_build; then
+      cat "$built" >&2
+      echo "ld: the program wasn't built" >&2
+      exit 1
+    fi
+    rm -f "$built"
+    trap - EXIT
+    touch "$program"
+  fi
+  exec {lock}<&-
+}
+
+case "${1-} ${2-}" in
+  help\ * | -h\ * | --help\ * | *\ -h | *\ --help)
+    print_usage
+    exit
+    ;;
+  --version\ *)
+    print_version
+    exit
+    ;;
+esac
+is_current || build_once
 exec "$program" "$@"

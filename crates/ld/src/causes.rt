@@ -1,55 +1,104 @@
 // What a person is told of a run that didn't end well.
+use crate::files::store_of;
+use crate::reasons::{file_reason, port_reason};
 use ld_cli::{Status, Which};
 use ld_config::{Config, ConfigFault};
 use ld_hints::explain;
+use ld_real::Tried;
 use ld_wire::WireFault;
-use ld_words::{config_cause, reason};
-use std::io::Result;
+use ld_words::{Places, config_cause, reason};
+use std::io::{ErrorKind, Result};
 
-/// Writes the status to standard error, and its cause in plain words. Of a line that is off `shown` is what was read of
-/// it, where that is kept.
-pub fn tell(
-    rt: &HostRuntime,
-    words: &[String],
-    status: Status,
-    shown: Option<&[u8]>,
-) -> Result<()> {
-    eprintln!(rt; "ld: status {}", status.code())?;
+/// What is known of a run beside its status.
+#[derive(Clone, Copy)]
+pub struct Found<'a, 'b> {
+    /// The words of the command line.
+    pub words: &'a [String],
+    /// The files and the port.
+    pub places: &'a Places,
+    /// What was read of the line that is off, where that is kept.
+    pub line: Option<&'b [u8]>,
+    /// Whether that was read with the byte that ends it.
+    pub is_ended: bool,
+    /// The system's reason for the last failed call of the store's file.
+    pub disk: Option<ErrorKind>,
+    /// The system's reason for the last failed call of the register's file.
+    pub register: Option<ErrorKind>,
+    /// Whether the port was bound.
+    pub is_listening: bool,
+    /// Which calls at the port failed.
+    pub port: Tried,
+    /// Which calls to nodes failed.
+    pub nodes: Tried,
+}
+
+/// Writes a status to standard error that comes before anything is called, and its cause in plain words.
+pub fn tell_early(rt: &HostRuntime, words: &[String], status: Status) -> Result<()> {
+    tell_status(rt, status)?;
+    match status {
+        Status::Usage => tell_usage(rt, words),
+        _ => tell_memory(rt),
+    }
+}
+
+/// Writes to standard error that the store and the register are one file.
+pub fn tell_one_file(rt: &HostRuntime) -> Result<()> {
+    tell_status(rt, Status::Usage)?;
+    eprintln!(rt; "ld: --store and --register are the same file")
+}
+
+fn tell_status(rt: &HostRuntime, status: Status) -> Result<()> {
+    eprintln!(rt; "ld: status {}", status.code())
+}
+
+fn tell_memory(rt: &HostRuntime) -> Result<()> {
+    eprintln!(rt; "ld: out of memory")
+}
+
+/// Tells that memory ended; a schedule with a `calm`, which isn't run yet, ends with the same status.
+fn tell_end(rt: &HostRuntime, found: &Found<'_, '_>) -> Result<()> {
+    if is_command(found.words, "replay") {
+        return eprintln!(rt; "ld: out of memory, or at a `calm`, which isn't run yet");
+    }
+    tell_memory(rt)
+}
+
+/// Writes the status to standard error, and its cause in plain words.
+pub fn tell(rt: &HostRuntime, status: Status, found: &Found<'_, '_>) -> Result<()> {
+    tell_status(rt, status)?;
     match status {
         Status::Ok => Ok(()),
-        Status::Usage => tell_usage(rt, words),
-        Status::BadSchedule { line, place } => tell_line(rt, words, line, place, shown),
-        Status::NoMemory => eprintln!(rt; "ld: out of memory"),
+        Status::Usage => tell_usage(rt, found.words),
+        Status::BadSchedule { line, place } => tell_line(rt, line, place, found),
+        Status::NoMemory => tell_end(rt, found),
         Status::Read => eprintln!(rt; "ld: reading standard input failed"),
         Status::Write => eprintln!(rt; "ld: writing standard output failed"),
-        Status::Disk => eprintln!(rt; "ld: the store's file failed"),
-        Status::Register => eprintln!(rt; "ld: the register's file failed"),
-        Status::Link => tell_link(rt, words),
+        Status::Disk => eprintln!(rt;
+            "ld: the store's file {} failed: {}",
+            store_of(found.places),
+            file_reason(found.disk)
+        ),
+        Status::Register => tell_register(rt, found),
+        Status::Link => tell_link(rt, found),
         Status::BadFrame(fault) => tell_frame(rt, fault),
-        Status::Damaged { which, place } => {
-            eprintln!(rt;
-                "ld: {} place {place}: the record there is none that this program wrote",
-                name_of(which)
-            )
-        }
+        Status::Damaged { which, place } => eprintln!(rt;
+            "ld: {} place {place}: {} isn't a {} of this program, or is damaged",
+            name_of(which),
+            file_of(which, found.places),
+            name_of(which)
+        ),
         Status::Blank => eprintln!(rt; "ld: the store isn't formatted; --format formats it"),
-        Status::JournalFull(which) => {
-            eprintln!(rt;
-                "ld: the {}'s journal is full: it has at most 2^40 bytes",
-                name_of(which)
-            )
-        }
+        Status::JournalFull(which) => eprintln!(rt;
+            "ld: the {}'s journal is full: it has at most 2^40 bytes",
+            name_of(which)
+        ),
         Status::GenLimit => {
             eprintln!(rt; "ld: this node was formatted 2^32-1 times, which is all that there are")
         }
-        Status::NotDone => {
-            eprintln!(rt; "ld: not done in these rounds, though no call to a node failed")
-        }
-        Status::Preempted(by) => {
-            eprintln!(rt;
-                "ld: preempted by {by}: another sequencer has taken the log over in that epoch"
-            )
-        }
+        Status::NotDone => tell_waiting(rt, found.words),
+        Status::Preempted(by) => eprintln!(rt;
+            "ld: preempted by {by}: another sequencer has taken the log over in that epoch"
+        ),
         Status::LogLimit => eprintln!(rt;
             "ld: the register holds 64 other logs, which is all that it can"
         ),
@@ -66,6 +115,14 @@ fn name_of(which: Which) -> &'static str {
     }
 }
 
+/// The file of a journal.
+fn file_of<'a>(which: Which, places: &'a Places) -> &'a str {
+    match which {
+        Which::Store => store_of(places),
+        Which::Register => places.register.as_str(),
+    }
+}
+
 /// How the commands are spelt.
 const USAGE: &str = "ld: usage: ld replay < SCHEDULE
 ld:        ld exercise --seed N --events M
@@ -78,23 +135,69 @@ fn is_command(words: &[String], name: &str) -> bool {
     words.first().is_some_and(|word| word.as_str() == name)
 }
 
-/// Tells which calls of the link failed.
-fn tell_link(rt: &HostRuntime, words: &[String]) -> Result<()> {
-    if is_command(words, "node") {
-        eprintln!(rt; "ld: listening failed: is the port free?")
-    } else {
-        eprintln!(rt; "ld: not done in these rounds: calls to nodes failed; are they up?")
+/// Tells why the register's file failed, and where it is missing what makes one.
+fn tell_register(rt: &HostRuntime, found: &Found<'_, '_>) -> Result<()> {
+    eprintln!(rt;
+        "ld: the register's file {} failed: {}",
+        found.places.register.as_str(),
+        file_reason(found.register)
+    )?;
+    if found.register == Some(ErrorKind::NotFound) && !is_command(found.words, "node") {
+        return eprintln!(rt;
+            "ld: `ld node` with --format makes the register; is this the file that the nodes were formatted with?"
+        );
     }
+    Ok(())
 }
 
-/// Tells why the words are no command.
+/// Tells which calls of the link failed.
+fn tell_link(rt: &HostRuntime, found: &Found<'_, '_>) -> Result<()> {
+    if !is_command(found.words, "node") {
+        return tell_nodes(rt, found);
+    }
+    if found.is_listening {
+        return eprintln!(rt;
+            "ld: port {} gives no further connection",
+            found.places.port
+        );
+    }
+    eprintln!(rt;
+        "ld: listening on port {} failed: {}",
+        found.places.port,
+        port_reason(found.port.cause())
+    )
+}
+
+/// Tells which nodes didn't answer, and at which ports.
+fn tell_nodes(rt: &HostRuntime, found: &Found<'_, '_>) -> Result<()> {
+    eprint!(rt; "ld: not done in these rounds: calls to nodes failed")?;
+    let mut before = ": no answer from";
+    for node in 1..17u8 {
+        if found.nodes.has_failed(node) {
+            let port = found.places.port.saturating_add(u16::from(node));
+            eprint!(rt; "{before} node {node} at port {port}")?;
+            before = ",";
+        }
+    }
+    eprintln!(rt;)
+}
+
+/// Tells what a run waits for that reached each node and isn't done.
+fn tell_waiting(rt: &HostRuntime, words: &[String]) -> Result<()> {
+    eprintln!(rt; "ld: not done in these rounds, though no call to a node failed")?;
+    if is_command(words, "tail") {
+        return eprintln!(rt;
+            "ld: some records up to --until aren't released yet, or never were appended. Where all nodes were started again since the last append, nobody tells what was released: an `ld append` without input closes the epoch, and then its records can be read"
+        );
+    }
+    eprintln!(rt; "ld: too few nodes have stored what isn't acknowledged; more --rounds may help")
+}
+
+/// Tells why the arguments are invalid.
 fn tell_usage(rt: &HostRuntime, words: &[String]) -> Result<()> {
     match reason(rt.alloc(), words) {
-        Ok(reason) => eprintln!(rt;
-            "ld: the words are no command: {}",
-            first_part(reason.as_str())
-        )?,
-        Err(_) => eprintln!(rt; "ld: the words are no command")?,
+        Ok(reason) => eprintln!(rt; "ld: invalid arguments: {}", first_part(reason.as_str()))?,
+        Err(_) => eprintln!(rt; "ld: invalid arguments")?,
     }
     eprintln!(rt; "{USAGE}")
 }
@@ -118,16 +221,27 @@ fn payload_hint(words: &[String]) -> &'static str {
     }
 }
 
+/// Why the end of a line is off, where that is what is off.
+fn end_reason(place: u64, found: &Found<'_, '_>) -> Option<&'static str> {
+    let line = found.line?;
+    let left = line.get(place as usize..)?;
+    if left.is_empty() && !found.is_ended {
+        return Some("the last line has no newline");
+    }
+    if left == b"\r".as_slice() && found.is_ended {
+        return Some("a carriage return stands before the newline");
+    }
+    None
+}
+
 /// Tells which line is off, where it is, and how such a line is spelt.
-fn tell_line(
-    rt: &HostRuntime,
-    words: &[String],
-    line: u64,
-    place: u64,
-    shown: Option<&[u8]>,
-) -> Result<()> {
-    if is_command(words, "append") {
-        return eprintln!(rt; "ld: line {line} place {place}: {}", payload_hint(words));
+fn tell_line(rt: &HostRuntime, line: u64, place: u64, found: &Found<'_, '_>) -> Result<()> {
+    if let Some(reason) = end_reason(place, found) {
+        return eprintln!(rt; "ld: line {line} place {place}: {reason}");
+    }
+    if is_command(found.words, "append") {
+        let hint = payload_hint(found.words);
+        return eprintln!(rt; "ld: line {line} place {place}: {hint}");
     }
     let reason = if line == 1 {
         "this is no configuration"
@@ -135,7 +249,7 @@ fn tell_line(
         "no event is spelt so"
     };
     eprintln!(rt; "ld: line {line} place {place}: {reason}")?;
-    let Some(bytes) = shown else {
+    let Some(bytes) = found.line else {
         return Ok(());
     };
     if line == 1 {

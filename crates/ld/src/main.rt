@@ -2,15 +2,17 @@
 #![tactic(auto)]
 
 mod causes;
+mod files;
+mod reasons;
 
-use causes::tell;
+use causes::{Found, tell, tell_early, tell_one_file};
+use files::{are_one_file, store_of};
 use ld_cli::{Status, run};
 use ld_dial::Framed;
 use ld_hints::Recent;
-use ld_io::Source;
-use ld_real::{FileDisk, FileRegister, StdSink, StdSource, TcpLink};
+use ld_real::{Announced, FileDisk, FileRegister, StdSink, StdSource, TcpLink};
 use ld_words::{FileName, Places, places};
-use std::io::{Error, ErrorKind, writer};
+use std::io::{Error, ErrorKind, IsTerminal, writer};
 use std::process::ExitCode;
 
 fn main(rt: HostRuntime) -> ExitCode {
@@ -28,27 +30,52 @@ fn without_words(rt: &HostRuntime, error: &Error) -> Status {
     } else {
         Status::Usage
     };
-    let _ = tell(rt, &[], status, None);
+    ends_early(rt, &[], status)
+}
+
+/// Tells a status that comes before anything is called.
+fn ends_early(rt: &HostRuntime, words: &[String], status: Status) -> Status {
+    // Where standard error can't be written, there is nobody left to tell.
+    let _ = tell_early(rt, words, status);
     status
 }
 
-/// Makes what the words name, calls the top call, and tells its status where it isn't Ok.
+/// Finds the files and the port that the words name. What a command has no use for is never opened.
 fn perform(rt: &HostRuntime, words: &[String]) -> Status {
     let alloc = rt.alloc();
-    let mut input = Recent::new(alloc, StdSource::new(rt.reader()));
     let Ok(places) = places(alloc, words) else {
-        let _ = tell(rt, words, Status::NoMemory, None);
-        return Status::NoMemory;
+        return ends_early(rt, words, Status::NoMemory);
     };
-    // What a command has no use for is never opened.
     let places = places.unwrap_or(Places {
         store: None,
         register: FileName::new(String::new(alloc)),
         port: 0,
     });
-    let mut disk = FileDisk::new(rt, store_of(&places));
+    if are_one_file(rt, &places) {
+        let _ = tell_one_file(rt);
+        return Status::Usage;
+    }
+    carry_out(rt, words, &places)
+}
+
+/// Makes what the words name, calls the top call, and tells its status where it isn't Ok.
+fn carry_out<'a>(rt: &'a HostRuntime, words: &'a [String], places: &'a Places) -> Status {
+    let alloc = rt.alloc();
+    let Ok(mut disk) = FileDisk::new(alloc, rt, store_of(places)) else {
+        return ends_early(rt, words, Status::NoMemory);
+    };
+    let Ok(text) = String::from_str(alloc, "ld: listening on port ") else {
+        return ends_early(rt, words, Status::NoMemory);
+    };
+    // A person is told; what reads standard error otherwise finds the status first.
+    let out = if rt.stderr().is_terminal() {
+        Some(rt.stderr())
+    } else {
+        None
+    };
+    let mut link = Announced::new(rt, places.port, out, text);
+    let mut input = Recent::new(alloc, StdSource::new(rt.reader()));
     let mut register = FileRegister::new(rt, places.register.as_str());
-    let mut link = TcpLink::new(rt, places.port);
     let mut nodes = Framed::new(alloc, TcpLink::new(rt, places.port));
     let mut out = StdSink::new(writer(rt));
     let status = run(
@@ -62,26 +89,24 @@ fn perform(rt: &HostRuntime, words: &[String]) -> Status {
         &mut nodes,
     );
     if status != Status::Ok {
-        // Where standard error can't be written, there is nobody left to tell.
-        let _ = tell(rt, words, status, shown(&status, &input));
+        let (line, is_ended) = match status {
+            Status::BadSchedule { line, .. } => (input.line(line), input.is_ended(line)),
+            _ => (None, false),
+        };
+        let found = Found {
+            words,
+            places,
+            line,
+            is_ended,
+            disk: disk.cause(),
+            register: register.cause(),
+            is_listening: link.is_listening(),
+            port: link.tried(),
+            nodes: nodes.into_link().tried(),
+        };
+        let _ = tell(rt, status, &found);
     }
     status
-}
-
-/// The file of the store; a command that has none opens none.
-fn store_of(places: &Places) -> &str {
-    match &places.store {
-        Some(store) => store.as_str(),
-        None => "",
-    }
-}
-
-/// What was read of the line that is off, where the status names one.
-fn shown<'a, S: Source + Drop>(status: &Status, input: &'a Recent<S>) -> Option<&'a [u8]> {
-    match status {
-        Status::BadSchedule { line, .. } => input.line(*line),
-        _ => None,
-    }
 }
 
 /// The words of the command line after the program's name.

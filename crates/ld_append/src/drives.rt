@@ -1,5 +1,5 @@
 // A sequencer is activated, and driven over payloads.
-ghost use Rattle.std.specs.Prelude.{◌≡◌, ◌⊎◌, ℕ, Option, true, false, None, IfErr, OnOk};
+ghost use Rattle.std.specs.Prelude.{◌≡◌, ◌⊎◌, ℕ, Option, true, false, None, IfErr, OnOk, Some};
 ghost use Rattle.ld_config.specs.Bounds.{IsInBounds};
 ghost use Rattle.ld_schedule.specs.declared.event.Event.TheVariants.{Activate};
 ghost use Rattle.ld_machine.specs.State.{State};
@@ -34,17 +34,17 @@ fn start<G: Register, O: Sink>(
 ) -> Result<(), Ended>
     requires { IsSpec spec.now }
     ensures started { acting.old.sequencer ≡ None → (first : ℕ) (s : State) (far : Far) → IsInBounds config.now → IsSpecOf config.now spec.now → IsUnset config.now s spec.now → Holds (Serves acting.old.name None (G.tells acting.old.register)) config.now first s far queues.old
-        → GoesOn (sequencing acting.old.name) ⊥ (IsOne (Activate acting.old.name spec.now.log)) (λ e. IsBegun (Activate acting.old.name spec.now.log)) (Serves acting.new.name acting.new.sequencer (G.tells acting.new.register)) (λ now. now ≡ far) config.now first s queues.new (O.written out.old) (O.written out.new) result }
+        → GoesOn (sequencing acting.old.name) ⊥ (IsOne (Activate acting.old.name spec.now.log)) (λ e. IsBegun (Activate acting.old.name spec.now.log)) (Serves acting.new.name acting.new.sequencer (G.tells acting.new.register)) (λ now. now ≡ far) config.now first s queues.new (Some (O.written out.old)) (Some (O.written out.new)) result }
     ensures name { acting.new.name ≡ acting.old.name }
     ensures leaves { Leaves spec.now.log (G.told acting.old.register) (G.told acting.new.register) (G.may_hold acting.old.register) (G.may_hold acting.new.register) }
     ensures itself { G.identity acting.new.register ≡ G.identity acting.old.register }
     ensures active { acting.old.sequencer ≡ None → IsOfLog spec.now.log acting.new.sequencer }
     ensures shut { acting.new.is_shut ≡ acting.old.is_shut }
-    ensures cause { IfErr result (IsStartEnding (G.told acting.old.register → MayCrowd (G.may_hold acting.old.register) spec.now.log) (λ place. G.told acting.old.register → G.damaged acting.old.register place) (O.faults out.old) (O.faults out.new) (O.written out.old) (O.written out.new)) }
+    ensures cause { IfErr result (IsStartEnding (G.told acting.old.register → MayCrowd (G.may_hold acting.old.register) spec.now.log) (λ place. G.told acting.old.register → G.damaged acting.old.register place) (O.faults out.old) (O.faults out.new) (Some (O.written out.old)) (Some (O.written out.new))) }
     ensures off { (off : Option FrameFault) → IfErr result (IsOffAs off) }
     ensures refused { IfErr result (IsRefused (λ place. G.told acting.old.register → G.damaged acting.old.register place) (G.told acting.old.register → HoldsSome (G.holds acting.old.register) × LacksRoom (G.holds acting.new.register)) (G.faults acting.old.register) (G.faults acting.new.register)) }
     ensures on { acting.old.end ≡ None → HasBegun acting.new.end (G.told acting.old.register) (G.holds acting.old.register) (G.holds acting.new.register) (G.faults acting.old.register) (G.faults acting.new.register) }
-    ensures later { IsLater (O.faults out.old) (O.faults out.new) (O.written out.old) (O.written out.new) }
+    ensures later { IsLater (O.faults out.old) (O.faults out.new) (Some (O.written out.old)) (Some (O.written out.new)) }
 {
     let Ok(heard) = acting.activate(alloc, config, spec) else {
         return Err(Ended::NoMemory);
@@ -66,12 +66,12 @@ fn drive<G: Register, N: Nodes, P: Payloads, O: Sink>(
 ) -> Result<bool, Ended>
     requires { IsSpec spec.now }
     ensures drove { acting.old.name ≡ name.now → acting.old.sequencer ≡ None → (s : State) (far : Far) → IsInBounds config.now → IsSpecOf config.now spec.now → IsUnset config.now s spec.now → N.tells nodes.old config.now far → Begins (HasNone (G.tells acting.old.register)) config.now s far
-        → (N.silent nodes.new ≡ true) ⊎ DroveAppend name.now spec.now.log (IsBroken (N.faults nodes.old) (N.faults nodes.new) (N.endings nodes.old) (N.endings nodes.new)) (P.coming input.old) rounds (N.tells nodes.new) (G.tells acting.new.register) config.now s (O.written out.old) (O.written out.new) result }
+        → (N.silent nodes.new ≡ true) ⊎ DroveAppend name.now spec.now.log (IsBroken (N.faults nodes.old) (N.faults nodes.new) (N.endings nodes.old) (N.endings nodes.new)) (P.coming input.old) rounds (N.tells nodes.new) (G.tells acting.new.register) config.now s (Some (O.written out.old)) (Some (O.written out.new)) result }
     ensures shut { acting.old.sequencer ≡ None → acting.old.is_shut ≡ false → OnOk result (acting.new.is_shut ≡ true → G.told acting.old.register → MayCrowd (G.may_hold acting.old.register) spec.now.log) }
     ensures leaves { acting.old.sequencer ≡ None → Leaves spec.now.log (G.told acting.old.register) (G.told acting.new.register) (G.may_hold acting.old.register) (G.may_hold acting.new.register) }
     ensures register { G.identity acting.new.register ≡ G.identity acting.old.register }
     ensures itself { P.identity input.new ≡ P.identity input.old }
-    ensures cause { IfErr result (IsDriveEnding (G.told acting.old.register → MayCrowd (G.may_hold acting.old.register) spec.now.log) (λ place. G.told acting.old.register → G.damaged acting.old.register place) (P.coming input.old) (P.faults input.old) (P.faults input.new) (O.faults out.old) (O.faults out.new) (O.written out.old) (O.written out.new)) }
+    ensures cause { IfErr result (IsDriveEnding (G.told acting.old.register → MayCrowd (G.may_hold acting.old.register) spec.now.log) (λ place. G.told acting.old.register → G.damaged acting.old.register place) (P.coming input.old) (P.faults input.old) (P.faults input.new) (O.faults out.old) (O.faults out.new) (Some (O.written out.old)) (Some (O.written out.new))) }
     ensures off { IfErr result (IsOffAs (N.off nodes.new)) }
     ensures refused { acting.old.end ≡ None → IfErr result (IsRefused (λ place. G.told acting.old.register → G.damaged acting.old.register place) (G.told acting.old.register → HoldsSome (G.holds acting.old.register) × LacksRoom (G.holds acting.new.register)) (G.faults acting.old.register) (G.faults acting.new.register)) }
 {
@@ -123,13 +123,13 @@ pub fn append<G: Register, N: Nodes, P: Payloads, O: Sink>(
     // the sequencer's lines of those steps. A message to a node is lost only where a call of the nodes failed or a node had
     // ended, and an answer only where the sequencer doesn't take it. It never ends with `BadFrame`.
     ensures appended { (s : State) (far : Far) → IsInBounds config.now → IsSpecOf config.now spec.now → IsUnset config.now s spec.now → N.tells nodes.old config.now far → Begins (HasNone (G.tells register)) config.now s far
-        → (N.silent nodes.new ≡ true) ⊎ IsAppended name spec.now.log (IsBroken (N.faults nodes.old) (N.faults nodes.new) (N.endings nodes.old) (N.endings nodes.new)) (P.coming input.old) rounds (N.tells nodes.new) (G.tells result.1) config.now s (O.written out.old) (O.written out.new) result.0 }
+        → (N.silent nodes.new ≡ true) ⊎ IsAppended name spec.now.log (IsBroken (N.faults nodes.old) (N.faults nodes.new) (N.endings nodes.old) (N.endings nodes.new)) (P.coming input.old) rounds (N.tells nodes.new) (G.tells result.1) config.now s (Some (O.written out.old)) (Some (O.written out.new)) result.0 }
     // The register is the same one. Where it tells what it holds it does so then, and it may hold as many other logs as may be
     // only where it might before.
     ensures register { G.identity result.1 ≡ G.identity register }
     ensures leaves { Leaves spec.now.log (G.told register) (G.told result.1) (G.may_hold register) (G.may_hold result.1) }
     ensures itself { P.identity input.new ≡ P.identity input.old }
-    ensures cause { IsEndOfAppend (G.told register → MayCrowd (G.may_hold register) spec.now.log) (λ place. G.told register → G.damaged register place) (P.coming input.old) (P.faults input.old) (P.faults input.new) (O.faults out.old) (O.faults out.new) (O.written out.old) (O.written out.new) result.0 }
+    ensures cause { IsEndOfAppend (G.told register → MayCrowd (G.may_hold register) spec.now.log) (λ place. G.told register → G.damaged register place) (P.coming input.old) (P.faults input.old) (P.faults input.new) (O.faults out.old) (O.faults out.new) (Some (O.written out.old)) (Some (O.written out.new)) result.0 }
     // It ends with `BadFrame` only by the fault that the nodes tell.
     ensures off { IsOffAs (N.off nodes.new) result.0 }
     // It ends with `Register` and `Failed` only where a call of the register failed. Where none failed and the register tells what

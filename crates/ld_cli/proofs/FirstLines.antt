@@ -1,7 +1,6 @@
 -- The first line of an input.
-use Rattle.std.proofs.Common.{◌≡◌, ◌≤◌, inl, inr, ℕ, Bool, true, false, List, length, sym, ◌∙◌, refl}
-use Rattle.std.specs.Prelude.{Option, Ok, Err}
-use Rattle.std.specs.Io.KnownBytes.{Consumes}
+use Rattle.std.proofs.Common.{◌≡◌, ◌≤◌, inl, inr, ℕ, Bool, true, false, List, ◌++◌, length, sym, ◌∙◌, refl}
+use Rattle.std.specs.Prelude.{Some, Ok, Err}
 use Rattle.std.specs.Str.{IsUtf8, is_utf8}
 use Rattle.std.proofs.lemmas.Str.{IsUtf8-from_is_utf8, is_utf8-from_IsUtf8}
 use Rattle.serde_json.specs.Read.{read}
@@ -27,9 +26,9 @@ says line config text utf8 = elim (text utf8) [
 ]
 
 -- a line that was read says its configuration
-pub took : (old new : Option (List ℕ)) (line shown : List ℕ) (config : Config) → Lacks 10 line → length line ≤ longest → Consumes old new (ended line) → shown ≡ line
+pub took : (old new line shown : List ℕ) (config : Config) → Lacks 10 line → length line ≤ longest → old ≡ ended line ++ new → shown ≡ line
     → (IsUtf8 shown → OrNoMemory (config_of_text (read shown)) (Ok config)) → ((IsUtf8 shown → ⊥) → OrNoMemory (Err NotJson) (Ok config))
-    → TakesConfig old new config
+    → TakesConfig (Some old) (Some new) config
 took old new line shown config one short taken e text no_text =
     let said : Says shown config = says shown config text (by_test (is_utf8 shown) shown config refl no_text) in
     record { line = line; configures = record { short = short; one = one; says = rw (← e) said }; taken = taken }

@@ -1,4 +1,5 @@
 pub mod Left
+pub mod Known
 pub mod LineLoop
 pub mod OffLines
 pub mod Safely

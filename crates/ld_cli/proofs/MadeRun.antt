@@ -11,7 +11,7 @@ use Rattle.ld_schedule.specs.Grammar.{IsNamed}
 use Rattle.ld_config.specs.declared.config.Config.{Config}
 use Rattle.ld_machine.specs.State.{State, start}
 use Rattle.ld_machine.specs.Run.{step, state_after, lines_of}
-use Rattle.ld_cluster.specs.Standing.{config_of, past_of, state_of, IsReached}
+use Rattle.ld_cluster.specs.Standing.{config_of, past_of, state_by, state_of, IsReached}
 use Rattle.ld_cluster.specs.Steps.{Counts}
 use Rattle.ld_cluster.specs.declared.cluster.Cluster.{Cluster}
 use Rattle.ld_maker.specs.Made.{made_config, first_events, begin, next_event, next_maker, made_from, made}
@@ -32,6 +32,7 @@ pub named_counts : (e : Event) → IsNamed e → Counts e
 named_counts (events.Fail node call) named = named.1.0
 named_counts (events.Tear node call picture) named = named.1.0
 named_counts (events.RegFail call done) named = named.0
+named_counts events.Calm named = tt
 named_counts (events.Set l r extras set) named = tt
 named_counts (events.Replace n other l) named = tt
 named_counts (events.Format n) named = tt
@@ -67,7 +68,7 @@ unfolding state_after lines_of
 unplayed k t same past reached none =
     record {
       config = same;
-      state = ap (λ es. state_after (config_of k) (start (config_of k)) es) past ∙ ap start same;
+      state = ap (λ ms. state_by (config_of k) (start (config_of k)) ms) past ∙ ap start same;
       reached = reached;
       counts = none;
       room = rw none (record {

@@ -1,7 +1,6 @@
 -- Lines that are off, by what was taken of the input.
-use Rattle.std.proofs.Common.{◌≡◌, ◌≢◌, inl, inr, ◌≤◌, ◌<◌, ◌+◌, ℕ, List, [], ◌∷◌, ◌++◌, length, None, Some, refl, sym, ap, ◌∙◌, arith}
-use Rattle.std.specs.Prelude.{Option, IfSome, Result, Ok, Err}
-use Rattle.std.specs.Io.KnownBytes.{Consumes, IsAtEnd}
+use Rattle.std.proofs.Common.{◌≡◌, ◌≢◌, inl, inr, ◌≤◌, ◌<◌, ◌+◌, ℕ, List, [], ◌∷◌, ◌++◌, length, refl, sym, ap, ◌∙◌, arith}
+use Rattle.std.specs.Prelude.{Result, Ok, Err}
 use Rattle.std.specs.Str.{IsUtf8}
 use Rattle.std.proofs.lemmas.List.{append-nil, length-append}
 use Rattle.serde_json.specs.Read.{read}
@@ -42,19 +41,14 @@ some_line line = omega (arith, length-append line (10 ∷ []))
 
 -- ---- the first line ----
 
-pub first_ends : (old : Option (List ℕ)) → IsAtEnd old → IfSome old (λ bytes. IsOffFirst bytes 0)
-first_ends None ends = tt
-first_ends (Some x) ends = inr (inl (no_more x ends))
+pub first_ends : (x : List ℕ) → x ≡ [] → IsOffFirst x 0
+first_ends x ends = inr (inl (no_more x ends))
 
-pub first_cut : (old new : Option (List ℕ)) (line : List ℕ) → Lacks 10 line → length line ≤ longest → Consumes old new line → IsAtEnd new → IfSome old (λ bytes. IsOffFirst bytes (length line))
-first_cut None new line one short taken ends = tt
-first_cut (Some x) None line one short taken ends = absurd taken
-first_cut (Some x) (Some y) line one short taken ends = inr (inl (cut_line x line y one short taken ends))
+pub first_cut : (x y line : List ℕ) → Lacks 10 line → length line ≤ longest → x ≡ line ++ y → y ≡ [] → IsOffFirst x (length line)
+first_cut x y line one short taken ends = inr (inl (cut_line x line y one short taken ends))
 
-pub first_long : (old new : Option (List ℕ)) (line : List ℕ) → Lacks 10 line → length line ≡ longest + 1 → Consumes old new line → IfSome old (λ bytes. IsOffFirst bytes longest)
-first_long None new line one long taken = tt
-first_long (Some x) None line one long taken = absurd taken
-first_long (Some x) (Some y) line one long taken = inl (long_line x line y one long taken)
+pub first_long : (x y line : List ℕ) → Lacks 10 line → length line ≡ longest + 1 → x ≡ line ++ y → IsOffFirst x longest
+first_long x y line one long taken = inl (long_line x line y one long taken)
 
 -- what a refused text says
 pub says_none : (line : List ℕ) (result : Result Config ConfigFault) (fault : ConfigFault) → (IsUtf8 line → OrNoMemory (config_of_text (read line)) result)
@@ -64,29 +58,19 @@ says_none line result fault text failed other config says = elim (text says.0) [
   | inr memory ↦ (let e : Err fault ≡ Err NoMemory = sym failed ∙ memory in other (cc))
 ]
 
-pub first_refused : (old new : Option (List ℕ)) (line shown : List ℕ) → Lacks 10 line → length line ≤ longest → Consumes old new (ended line) → shown ≡ line
-    → ((config : Config) → Says shown config → ⊥) → IfSome old (λ bytes. IsOffFirst bytes 0)
-first_refused None new line shown one short taken e off = tt
-first_refused (Some x) None line shown one short taken e off = absurd taken
-first_refused (Some x) (Some y) line shown one short taken e off =
+pub first_refused : (x y line shown : List ℕ) → Lacks 10 line → length line ≤ longest → x ≡ ended line ++ y → shown ≡ line
+    → ((config : Config) → Says shown config → ⊥) → IsOffFirst x 0
+first_refused x y line shown one short taken e off =
     inr (inr (record { line = line; rest = y; begins = begins_with x line y one short taken; off = λ config says. off config (rw e says); at = refl }))
 
 -- ---- a later line ----
 
-pub later_cut : (old new : Option (List ℕ)) (line : List ℕ) → Lacks 10 line → length line ≤ longest → 0 < length line → Consumes old new line → IsAtEnd new
-    → IfSome old (λ bytes. IsOffLater bytes (length line))
-later_cut None new line one short some taken ends = tt
-later_cut (Some x) None line one short some taken ends = absurd taken
-later_cut (Some x) (Some y) line one short some taken ends = record { some = some_of x line y taken (omega (arith, some)); off = inr (inl (cut_line x line y one short taken ends)) }
+pub later_cut : (x y line : List ℕ) → Lacks 10 line → length line ≤ longest → 0 < length line → x ≡ line ++ y → y ≡ [] → IsOffLater x (length line)
+later_cut x y line one short some taken ends = record { some = some_of x line y taken (omega (arith, some)); off = inr (inl (cut_line x line y one short taken ends)) }
 
-pub later_long : (old new : Option (List ℕ)) (line : List ℕ) → Lacks 10 line → length line ≡ longest + 1 → Consumes old new line → IfSome old (λ bytes. IsOffLater bytes longest)
-later_long None new line one long taken = tt
-later_long (Some x) None line one long taken = absurd taken
-later_long (Some x) (Some y) line one long taken = record { some = some_of x line y taken (omega (arith, long)); off = inl (long_line x line y one long taken) }
+pub later_long : (x y line : List ℕ) → Lacks 10 line → length line ≡ longest + 1 → x ≡ line ++ y → IsOffLater x longest
+later_long x y line one long taken = record { some = some_of x line y taken (omega (arith, long)); off = inl (long_line x line y one long taken) }
 
-pub later_bad : (old new : Option (List ℕ)) (line : List ℕ) (place : ℕ) → Lacks 10 line → length line ≤ longest → Consumes old new (ended line)
-    → IsOff IsNamed event_text line place → IfSome old (λ bytes. IsOffLater bytes place)
-later_bad None new line place one short taken off = tt
-later_bad (Some x) None line place one short taken off = absurd taken
-later_bad (Some x) (Some y) line place one short taken off =
+pub later_bad : (x y line : List ℕ) (place : ℕ) → Lacks 10 line → length line ≤ longest → x ≡ ended line ++ y → IsOff IsNamed event_text line place → IsOffLater x place
+later_bad x y line place one short taken off =
     record { some = some_of x (ended line) y taken (some_line line); off = inr (inr (record { line = line; rest = y; begins = begins_with x line y one short taken; off = off })) }

@@ -1,7 +1,7 @@
 -- An input is a schedule, and a rest that is off, in one way.
-use Rattle.std.proofs.Common.{◌≡◌, ◌<◌, inl, inr, ℕ, List, [], ◌∷◌, ◌++◌, length, None, Some, refl, sym, ap, ◌∙◌, subst, arith}
+use Rattle.std.proofs.Common.{◌≡◌, ◌<◌, inl, inr, ℕ, List, [], ◌∷◌, ◌++◌, length, refl, sym, ap, ◌∙◌, arith}
 use Rattle.std.specs.Prelude.{flat_map, Ok}
-use Rattle.std.specs.Prelude.{Option, IfSome}
+use Rattle.std.specs.Prelude.{Option}
 use Rattle.std.proofs.lemmas.List.{append_assoc, append-nil, length-append}
 use Rattle.serde_json.specs.Read.{read}
 use Rattle.ld_lsn.specs.Text.{Lacks}
@@ -14,9 +14,7 @@ use Rattle.ld_config.specs.declared.config.Config.{Config}
 use Rattle.ld_config.specs.Config.{config_of_text}
 use Rattle.ld_cli.specs.Lines.{ended}
 use Rattle.ld_cli.specs.Schedule.{Configures, IsSpelt, AreSpelt, event_line, schedule_text, IsOffFirst, IsOffLater}
-use Rattle.ld_cli.specs.declared.status.Stop.{Stop}
-use Rattle.ld_cli.specs.declared.status.Stop.TheVariants.{BadSchedule}
-use Rattle.ld_cli.specs.Ends.{IsSchedule, StopsLater, IsStopped, StopsBy}
+use Rattle.ld_cli.specs.Ends.{IsSchedule, StopsLater, IsStopped}
 use Rattle.ld_cli.specs.OneReading.{Ends}
 
 -- no byte among the first ones is c
@@ -105,10 +103,3 @@ not_off_later bytes old new line place s stops =
 pub never_off : (bytes : List ℕ) (old new : Option (List ℕ)) (line place : ℕ) → IsSchedule bytes → IsStopped bytes old new line place → ⊥
 never_off bytes old new line place s (inl first) = not_off_first bytes place s first.off
 never_off bytes old new line place s (inr later) = not_off_later bytes old new line place s later
-
-pub never_off_some : (left old new : Option (List ℕ)) (line place : ℕ) → IfSome left (λ bytes. IsStopped bytes old new line place) → IfSome left (λ bytes. IsSchedule bytes → ⊥)
-never_off_some None old new line place stops = tt
-never_off_some (Some bytes) old new line place stops = λ s. never_off bytes old new line place s stops
-
-pub never_off_by : (left old new : Option (List ℕ)) (stop : Stop) (line place : ℕ) → stop ≡ BadSchedule line place → IfSome left (λ bytes. StopsBy bytes old new stop) → IfSome left (λ bytes. IsSchedule bytes → ⊥)
-never_off_by left old new stop line place is stops = never_off_some left old new line place (subst (λ s. IfSome left (λ bytes. StopsBy bytes old new s)) is stops)

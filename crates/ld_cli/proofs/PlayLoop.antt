@@ -1,8 +1,9 @@
 -- The loop over the events of a schedule.
-use Rattle.std.proofs.Common.{◌≡◌, ◌≤◌, ◌+◌, inl, inr, ℕ, List, [], ◌∷◌, ◌++◌, length, None, Some, refl, sym, ap, ◌∙◌, subst, arith}
-use Rattle.std.specs.Prelude.{Option, IfSome, flat_map}
-use Rattle.std.specs.Io.KnownBytes.{Consumes, Appends, IsAtEnd, prepend_known}
+use Rattle.std.proofs.Common.{◌≡◌, ◌≤◌, ◌+◌, inl, inr, ℕ, List, [], ◌∷◌, ◌++◌, length, drop, Some, refl, sym, ap, ◌∙◌, subst, arith}
+use Rattle.std.specs.Prelude.{Option, flat_map}
+use Rattle.std.specs.Io.KnownBytes.{Appends}
 use Rattle.std.proofs.lemmas.List.{append_assoc, append-nil, length-append}
+use Rattle.std.proofs.Math.Seq.{drop-append_seam}
 use Rattle.std.proofs.lemmas.List.Concat.{flat_map-append}
 use Rattle.ld_schedule.specs.declared.event.Event.{Event}
 use Rattle.ld_transcript.specs.Text.{line_text, text}
@@ -10,7 +11,7 @@ use Rattle.ld_config.specs.declared.config.Config.{Config}
 use Rattle.ld_machine.specs.State.{State, start}
 use Rattle.ld_machine.specs.Run.{step, state_after, lines_of}
 use Rattle.ld_schedule.specs.declared.event.Event.TheVariants as events
-use Rattle.ld_cluster.specs.Standing.{config_of, past_of, state_of, IsReached}
+use Rattle.ld_cluster.specs.Standing.{config_of, past_of, state_by, state_of, IsReached}
 use Rattle.ld_cluster.specs.Steps.{Counts}
 use Rattle.ld_cluster.specs.declared.cluster.Cluster.{Cluster}
 use Rattle.ld_cli.specs.Lines.{ended}
@@ -23,16 +24,17 @@ use Rattle.ld_cli.specs.declared.status.Stop.TheVariants as stops
 use Rattle.ld_cli.specs.Causes.{IsReadStop, IsWriteStop, IsStop}
 use Rattle.ld_cli.specs.Ends.{written_by, IsReplayed, IsStopped, IsCut, StopsBy}
 use Rattle.ld_rounds.proofs.Writing.{Appends-trans, Appends-nil}
-use Rattle.ld_cli.proofs.Left.{Consumes-trans}
+use Rattle.ld_io.specs.Input.{Front}
+use Rattle.ld_cli.proofs.LineLoop.{taken_on}
 use Rattle.ld_cli.proofs.Safely.{run_is_safe}
 
 -- the lines of the configuration and of some events were read, and the transcript of the events was written
-pub record Playing (input_old input_new written_old written_new : Option (List ℕ)) (cluster : Cluster) (number : ℕ) : Type 0 where
+pub record Playing (input_old input_new : List ℕ) (written_old written_new : Option (List ℕ)) (cluster : Cluster) (number : ℕ) : Type 0 where
   pub first : List ℕ
   pub events : List Event
   pub configures : Configures first (config_of cluster)
   pub spelt : AreSpelt events
-  pub read : Consumes input_old input_new (schedule_text first events)
+  pub read : input_old ≡ schedule_text first events ++ input_new
   pub state : state_of cluster ≡ state_after (config_of cluster) (start (config_of cluster)) events
   pub reached : IsReached cluster
   pub written : Appends written_old written_new (written_by (config_of cluster) events)
@@ -95,36 +97,32 @@ spelt_counts (events.Up n) h = tt
 spelt_counts (events.Wipe n) h = tt
 spelt_counts (events.Set l r extras nodes) h = tt
 spelt_counts (events.Replace n other l) h = tt
+spelt_counts events.Calm h = tt
 
 -- ---- the loop ----
-
--- nothing is held
-from_held : (left new : Option (List ℕ)) (bytes : List ℕ) → Consumes (prepend_known [] left) new bytes → Consumes left new bytes
-from_held None new bytes taken = tt
-from_held (Some x) new bytes taken = taken
 
 first_text : (first : List ℕ) → ended first ≡ schedule_text first []
 unfolding schedule_text
 first_text first = sym (append-nil (ended first))
 
-pub begun : (left new written : Option (List ℕ)) (config : Config) (cluster : Cluster) → config_of cluster ≡ config → past_of cluster ≡ [] → IsReached cluster
-    → TakesConfig (prepend_known [] left) new config → Playing left new written written cluster 2
+pub begun : (left new : List ℕ) (written : Option (List ℕ)) (cluster : Cluster) → past_of cluster ≡ [] → IsReached cluster
+    → TakesConfig (Some left) (Some new) (config_of cluster) → Playing left new written written cluster 2
 unfolding AreSpelt state_after lines_of
-begun left new written config cluster same past reached taken =
+begun left new written cluster past reached taken =
     record {
       first = taken.line;
       events = [];
-      configures = rw same taken.configures;
+      configures = taken.configures;
       spelt = tt;
-      read = rw (← first_text) (from_held left new (ended taken.line) taken.taken);
-      state = ap (λ es. state_after (config_of cluster) (start (config_of cluster)) es) past;
+      read = rw (← first_text) taken.taken;
+      state = ap (λ ms. state_by (config_of cluster) (start (config_of cluster)) ms) past;
       reached = reached;
       written = Appends-nil written;
       count = refl;
     }
 
-pub played : (left mid new old written written' : Option (List ℕ)) (cluster stepped : Cluster) (number : ℕ) (e : Event) → Playing left mid old written cluster number
-    → IsSpelt e → Consumes mid new (event_line e) → IsTaken cluster e stepped → Appends written written' (text (step (config_of cluster) (state_of cluster) e).lines)
+pub played : (left mid new : List ℕ) (old written written' : Option (List ℕ)) (cluster stepped : Cluster) (number : ℕ) (e : Event) → Playing left mid old written cluster number
+    → IsSpelt e → mid ≡ event_line e ++ new → IsTaken cluster e stepped → Appends written written' (text (step (config_of cluster) (state_of cluster) e).lines)
     → Playing left new old written' stepped (number + 1)
 played left mid new old written written' cluster stepped number e playing can taken took more =
     let c : Config = config_of cluster in
@@ -133,7 +131,7 @@ played left mid new old written written' cluster stepped number e playing can ta
       events = playing.events ++ e ∷ [];
       configures = rw took.config playing.configures;
       spelt = AreSpelt-push playing.events e playing.spelt can;
-      read = rw schedule_text-push (Consumes-trans _ _ _ _ _ playing.read taken);
+      read = rw schedule_text-push (taken_on new (schedule_text playing.first playing.events) (event_line e) playing.read taken);
       state = took.state ∙ ap (λ s. (step c s e).state) playing.state ∙ sym (state_after-push c (start c) playing.events e)
           ∙ ap (λ d. state_after d (start d) (playing.events ++ e ∷ [])) (sym took.config);
       reached = took.reached;
@@ -143,20 +141,15 @@ played left mid new old written written' cluster stepped number e playing can ta
 
 -- ---- its ends ----
 
-pub silent : (left written : Option (List ℕ)) → IfSome left (λ bytes. IsCut bytes written written)
-silent None written = tt
-silent (Some bytes) written = inl (Appends-nil written)
+pub silent : (bytes : List ℕ) (written : Option (List ℕ)) → IsCut bytes written written
+silent bytes written = inl (Appends-nil written)
 
-pub off_first : (held : List ℕ) (left written : Option (List ℕ)) (place : ℕ) → held ≡ [] → IfSome (prepend_known held left) (λ bytes. IsOffFirst bytes place)
-    → IfSome left (λ bytes. IsStopped bytes written written 1 place)
-off_first held None written place none off = tt
-off_first held (Some bytes) written place none off = inl (record { off = subst (λ l. IsOffFirst (l ++ bytes) place) none off; line = refl; written = Appends-nil written })
+pub off_first : (held left : List ℕ) (written : Option (List ℕ)) (place : ℕ) → held ≡ [] → IsOffFirst (held ++ left) place → IsStopped left written written 1 place
+off_first held left written place none off = inl (record { off = subst (λ l. IsOffFirst (l ++ left) place) none off; line = refl; written = Appends-nil written })
 
-pub off_later : (left new old written : Option (List ℕ)) (cluster : Cluster) (number place : ℕ) → Playing left new old written cluster number
-    → IfSome new (λ bytes. IsOffLater bytes place) → IfSome left (λ bytes. IsStopped bytes old written number place)
-off_later None new old written cluster number place playing off = tt
-off_later (Some bytes) None old written cluster number place playing off = absurd playing.read
-off_later (Some bytes) (Some rest) old written cluster number place playing off =
+pub off_later : (left rest : List ℕ) (old written : Option (List ℕ)) (cluster : Cluster) (number place : ℕ) → Playing left rest old written cluster number
+    → IsOffLater rest place → IsStopped left old written number place
+off_later left rest old written cluster number place playing off =
     inr (record {
       first = playing.first;
       config = config_of cluster;
@@ -171,11 +164,9 @@ off_later (Some bytes) (Some rest) old written cluster number place playing off 
       safe = run_is_safe (config_of cluster) playing.reached.bounds playing.events;
     })
 
-pub replayed : (left new old written : Option (List ℕ)) (cluster : Cluster) (number : ℕ) → Playing left new old written cluster number
-    → IsAtEnd new → IfSome left (λ bytes. IsReplayed bytes old written)
-replayed None new old written cluster number playing ends = tt
-replayed (Some bytes) None old written cluster number playing ends = absurd playing.read
-replayed (Some bytes) (Some rest) old written cluster number playing ends =
+pub replayed : (left rest : List ℕ) (old written : Option (List ℕ)) (cluster : Cluster) (number : ℕ) → Playing left rest old written cluster number
+    → rest ≡ [] → IsReplayed left old written
+replayed left rest old written cluster number playing ends =
     record {
       line = playing.first;
       config = config_of cluster;
@@ -187,11 +178,9 @@ replayed (Some bytes) (Some rest) old written cluster number playing ends =
       safe = run_is_safe (config_of cluster) playing.reached.bounds playing.events;
     }
 
-pub cut_here : (left new old written : Option (List ℕ)) (cluster : Cluster) (number : ℕ) → Playing left new old written cluster number
-    → IfSome left (λ bytes. IsCut bytes old written)
-cut_here None new old written cluster number playing = tt
-cut_here (Some bytes) None old written cluster number playing = absurd playing.read
-cut_here (Some bytes) (Some rest) old written cluster number playing =
+pub cut_here : (left rest : List ℕ) (old written : Option (List ℕ)) (cluster : Cluster) (number : ℕ) → Playing left rest old written cluster number
+    → IsCut left old written
+cut_here left rest old written cluster number playing =
     inr (record {
       first = playing.first;
       config = config_of cluster;
@@ -207,15 +196,13 @@ cut_here (Some bytes) (Some rest) old written cluster number playing =
       safe = run_is_safe (config_of cluster) playing.reached.bounds playing.events;
     })
 
-pub cut_in : (left mid new old written written' : Option (List ℕ)) (cluster : Cluster) (number : ℕ) (e : Event) → Playing left mid old written cluster number
-    → IsSpelt e → Consumes mid new (event_line e) → AppendsPart written written' (text (step (config_of cluster) (state_of cluster) e).lines)
-    → IfSome left (λ bytes. IsCut bytes old written')
-cut_in None mid new old written written' cluster number e playing can taken more = tt
-cut_in (Some bytes) mid None old written written' cluster number e playing can taken more = absurd (Consumes-trans (Some bytes) mid None _ _ playing.read taken)
-cut_in (Some bytes) mid (Some rest) old written written' cluster number e playing can taken more =
+pub cut_in : (left mid rest : List ℕ) (old written written' : Option (List ℕ)) (cluster : Cluster) (number : ℕ) (e : Event) → Playing left mid old written cluster number
+    → IsSpelt e → mid ≡ event_line e ++ rest → AppendsPart written written' (text (step (config_of cluster) (state_of cluster) e).lines)
+    → IsCut left old written'
+cut_in left mid rest old written written' cluster number e playing can taken more =
     let c : Config = config_of cluster in
-    let all : bytes ≡ schedule_text playing.first (playing.events ++ e ∷ []) ++ rest =
-    Consumes-trans (Some bytes) mid (Some rest) _ _ playing.read taken ∙ ap (λ l. l ++ rest) (sym (schedule_text-push playing.first playing.events e)) in
+    let all : left ≡ schedule_text playing.first (playing.events ++ e ∷ []) ++ rest =
+    taken_on rest (schedule_text playing.first playing.events) (event_line e) playing.read taken ∙ ap (λ l. l ++ rest) (sym (schedule_text-push playing.first playing.events e)) in
     inr (record {
       first = playing.first;
       config = c;
@@ -232,21 +219,26 @@ cut_in (Some bytes) mid (Some rest) old written written' cluster number e playin
       safe = run_is_safe (config_of cluster) playing.reached.bounds (playing.events ++ e ∷ []);
     })
 
-pub at_end : (held : List ℕ) (left : Option (List ℕ)) → IsAtEnd (prepend_known held left) → IsAtEnd left
-at_end held None ends = tt
-at_end [] (Some bytes) ends = ends
-at_end (x ∷ held) (Some bytes) ends = cc
+none_of : (held left : List ℕ) → held ++ left ≡ [] → left ≡ []
+none_of [] left ends = ends
+none_of (x ∷ held) left ends = cc
+
+-- where nothing is left behind what was given, all was given
+pub all_given : (gave held all : List ℕ) → Front gave all → held ++ drop (length gave) all ≡ [] → all ≡ gave
+all_given gave held all front ends =
+    let rest : drop (length gave) all ≡ front.rest = ap (drop (length gave)) front.is ∙ drop-append_seam gave front.rest in
+    front.is ∙ ap (λ l. gave ++ l) (sym rest ∙ none_of held (drop (length gave) all) ends) ∙ append-nil gave
 
 -- want of memory, or a failed read or write, cuts the run off
-pub read_cuts : (left old new : Option (List ℕ)) (before now : ℕ) (stop : Stop) → IsReadStop before now stop
-    → IfSome left (λ bytes. IsCut bytes old new) → IfSome left (λ bytes. StopsBy bytes old new stop)
+pub read_cuts : (left : List ℕ) (old new : Option (List ℕ)) (before now : ℕ) (stop : Stop) → IsReadStop before now stop
+    → IsCut left old new → StopsBy left old new stop
 read_cuts left old new before now stops.NoMemory cause cut = cut
 read_cuts left old new before now stops.Read cause cut = cut
 read_cuts left old new before now stops.Write cause cut = absurd cause
 read_cuts left old new before now (stops.BadSchedule line place) cause cut = absurd cause
 
-pub write_cuts : (left old new : Option (List ℕ)) (before now : ℕ) (stop : Stop) → IsWriteStop before now stop
-    → IfSome left (λ bytes. IsCut bytes old new) → IfSome left (λ bytes. StopsBy bytes old new stop)
+pub write_cuts : (left : List ℕ) (old new : Option (List ℕ)) (before now : ℕ) (stop : Stop) → IsWriteStop before now stop
+    → IsCut left old new → StopsBy left old new stop
 write_cuts left old new before now stops.NoMemory cause cut = cut
 write_cuts left old new before now stops.Write cause cut = cut
 write_cuts left old new before now stops.Read cause cut = absurd cause

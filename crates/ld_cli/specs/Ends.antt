@@ -14,7 +14,7 @@ use Rattle.ld_machine.specs.Run.{Move, transcript, history, moves, after_step, w
 use Rattle.ld_machine.specs.World.{Made, In, HasPlan, begin}
 use Rattle.ld_machine.specs.Losses.{EndsAsLoss, Completes as Confirms}
 use Rattle.ld_machine.specs.Safe.{Safe}
-use Rattle.ld_safety.specs.Lost.{CopiesAreLost, MadeOfLost}
+use Rattle.ld_safety.specs.Lost.{CopiesAreLost, LossAsked, MadeOfLost}
 use Rattle.ld_safety.specs.OneCopy.{OneSends}
 use Rattle.ld_safety.specs.OneRun.{AreOneRun}
 use Rattle.ld_cli.specs.declared.status.Stop.{Stop}
@@ -29,7 +29,7 @@ written_by config events = transcript config events
 
 -- where a reader of the run asks once more for a number that it then calls lost, the number's epoch is closed, and as many of its nodes as it has copies are lost for
 -- it, each before a record that was cut short, where there is one; and unless the epoch was closed short, or where the number was known good, so many of those
--- that settled the number for the closing plan, or stored its append
+-- that settled the number for the closing plan, or stored its append, or took places in the epoch
 abbrev pub LossesStood : Config → List Event → Type 0
 LossesStood config events = (name : List ℕ) (log number round : ℕ) (before : List Move) (asks : Move) (between : List Move) (gives : Move) (after : List Move)
     → moves config events ≡ before ++ asks ∷ between ++ gives ∷ after
@@ -56,15 +56,26 @@ LossesPlanned config events = (name : List ℕ) (low high number : ℕ) (before 
     → low ≤ number → number ≤ high
     → WasPlanned config before d.log (home_epoch number)
 
+-- the one number that is excepted there is one of those that the reader asked once more: a step before sent the asks of its confirmation
+abbrev pub LossesConfirmed : Config → List Event → Type 0
+LossesConfirmed config events = (name : List ℕ) (number : ℕ) (before : List Move) (gives : Move) (after : List Move) (d : Reader)
+    → moves config events ≡ before ++ gives ∷ after
+    → find_named name (world_after config (begin config) before).state.readers ≡ Some d
+    → In (lines.Gap name gaps.DataLoss number number) (step_happened config (world_after config (begin config) before).state gives).lines
+    → Confirms (world_after config (begin config) before) d gives → number ≡ d.next
+    → LossAsked config name d.log number before gives
+
 -- the headline: in the run of these events what each reader gets tiles the numbers from its first one on, a record is the payload that was appended under its
--- number, the messages of a batch are those of the batch that was, no hole or bridge holds a number that was acknowledged or read, a trim gap ends at an issued
--- point, and a data loss had its moment, in the lines and in the state, which for one that a plan says is that plan's step; in a round for one copy of each record one
--- node alone sends each; and these are the lines of the transcript, but for `none`
+-- number, the messages of a batch are those of the batch that was, each reader gets records or messages as it was opened, no hole or bridge holds a number that was
+-- acknowledged or read, a trim gap ends at an issued point, and a data loss had its moment, in the lines and in the state: it is one that a plan says, or one that was
+-- confirmed; the numbers of appends rise, each of its sequencer's epoch, and what is acknowledged or released was appended before; in a round for one copy of each
+-- record one node alone sends each; and these are the lines of the transcript, but for `none`
 pub record IsSafe (config : Config) (events : List Event) : Type 0 where
   pub told : AreOneRun config events
   pub lines : Safe config (history config events)
   pub losses : LossesStood config events
   pub planned : LossesPlanned config events
+  pub confirmed : LossesConfirmed config events
   pub sent : OneSends (world_after config (begin config) (moves config events))
 
 -- the input is a schedule, and its whole transcript was written

@@ -1,6 +1,7 @@
 // A log is appended to or read, over its nodes.
-ghost use Rattle.std.specs.Prelude.{◌≡◌, ◌⊎◌, [], ◌∷◌, nat_lt, true, codes, IfOk};
+ghost use Rattle.std.specs.Prelude.{◌≡◌, ◌⊎◌, [], ◌∷◌, nat_lt, true, codes, Some, IfOk};
 ghost use Rattle.ld_config.specs.Bounds.{IsInBounds};
+ghost use Rattle.ld_io.specs.Input.{left_of};
 ghost use Rattle.ld_register.specs.Bounds.{IsSpec};
 ghost use Rattle.ld_machine.specs.Config.{first_spec};
 ghost use Rattle.ld_machine.specs.State.{State};
@@ -87,10 +88,10 @@ fn append_lines<I: Source, O: Sink, G: Register, N: Nodes>(
     requires { IsSpec spec.now }
     ensures appended { (s : State) (far : Far) → IsInBounds words.now.config → IsSpecOf words.now.config spec.now → IsUnset words.now.config s spec.now → N.tells nodes.old words.now.config far → Begins (HasNoSequencers (G.tells reg.old)) words.now.config s far
         → (N.silent nodes.new ≡ true) ⊎ EndsDrive (N.faults nodes.old) (N.faults nodes.new)
-        (IsAppended name spec.now.log (IsBroken (N.faults nodes.old) (N.faults nodes.new) (N.endings nodes.old) (N.endings nodes.new)) (input_after lines.old.held.now.batches lines.old.held.now.number (prepend_known lines.old.held.now.buffer (I.left lines.old.input.now))) words.now.rounds (N.tells nodes.new) (G.tells reg.new) words.now.config s (O.written out.old) (O.written out.new)) result }
+        (IsAppended name spec.now.log (IsBroken (N.faults nodes.old) (N.faults nodes.new) (N.endings nodes.old) (N.endings nodes.new)) (input_after lines.old.held.now.batches lines.old.held.now.number (prepend_known lines.old.held.now.buffer (left_of (I.known lines.old.input.now) (I.gave lines.old.input.now)))) words.now.rounds (N.tells nodes.new) (G.tells reg.new) words.now.config s (Some (O.written out.old)) (Some (O.written out.new))) result }
     ensures itself { lines.new.input.ghost_name ≡ lines.old.input.ghost_name }
     ensures ends { EndsDrive (N.faults nodes.old) (N.faults nodes.new)
-        (IsEndOfAppend (G.told reg.old → MayCrowd (G.may_hold reg.old) spec.now.log) (λ place. G.told reg.old → G.damaged reg.old place) (input_after lines.old.held.now.batches lines.old.held.now.number (prepend_known lines.old.held.now.buffer (I.left lines.old.input.now))) (I.faults lines.old.input.now) (I.faults lines.new.input.now) (O.faults out.old) (O.faults out.new) (O.written out.old) (O.written out.new)) result }
+        (IsEndOfAppend (G.told reg.old → MayCrowd (G.may_hold reg.old) spec.now.log) (λ place. G.told reg.old → G.damaged reg.old place) (input_after lines.old.held.now.batches lines.old.held.now.number (prepend_known lines.old.held.now.buffer (left_of (I.known lines.old.input.now) (I.gave lines.old.input.now)))) (I.faults lines.old.input.now) (I.faults lines.new.input.now) (O.faults out.old) (O.faults out.new) (Some (O.written out.old)) (Some (O.written out.new))) result }
     ensures refused { EndsDrive (N.faults nodes.old) (N.faults nodes.new)
         (IsRefused (λ place. G.told reg.old → G.damaged reg.old place) (G.told reg.old → HoldsSome (G.holds reg.old) × LacksRoom (G.holds reg.new)) (G.faults reg.old) (G.faults reg.new)) result }
     ensures off { EndsDrive (N.faults nodes.old) (N.faults nodes.new) (IsOffAs (N.off nodes.new)) result }
@@ -123,9 +124,9 @@ pub(crate) fn appended<I: Source, O: Sink, G: Register, N: Nodes>(
     requires bounds { IsLogInBounds words.now.of }
     ensures appended { (s : State) (far : Far) → N.tells nodes.old words.now.of.config far → Begins (HasNoSequencers (G.tells reg.old)) words.now.of.config s far → spec_set words.now.of.config s words.now.of.log ≡ first_spec words.now.of.config words.now.of.log
         → (N.silent nodes.new ≡ true) ⊎ EndsDrive (N.faults nodes.old) (N.faults nodes.new)
-        (IsAppended (codes "s") words.now.of.log (IsBroken (N.faults nodes.old) (N.faults nodes.new) (N.endings nodes.old) (N.endings nodes.new)) (payloads_in words.now.batches (I.left input.old)) words.now.of.rounds (N.tells nodes.new) (G.tells reg.new) words.now.of.config s (O.written out.old) (O.written out.new)) result }
+        (IsAppended (codes "s") words.now.of.log (IsBroken (N.faults nodes.old) (N.faults nodes.new) (N.endings nodes.old) (N.endings nodes.new)) (payloads_in words.now.batches (left_of (I.known input.old) (I.gave input.old))) words.now.of.rounds (N.tells nodes.new) (G.tells reg.new) words.now.of.config s (Some (O.written out.old)) (Some (O.written out.new))) result }
     ensures ends { EndsDrive (N.faults nodes.old) (N.faults nodes.new)
-        (IsEndOfAppend (G.told reg.old → MayCrowd (G.may_hold reg.old) words.now.of.log) (λ place. G.told reg.old → G.damaged reg.old place) (payloads_in words.now.batches (I.left input.old)) (I.faults input.old) (I.faults input.new) (O.faults out.old) (O.faults out.new) (O.written out.old) (O.written out.new)) result }
+        (IsEndOfAppend (G.told reg.old → MayCrowd (G.may_hold reg.old) words.now.of.log) (λ place. G.told reg.old → G.damaged reg.old place) (payloads_in words.now.batches (left_of (I.known input.old) (I.gave input.old))) (I.faults input.old) (I.faults input.new) (O.faults out.old) (O.faults out.new) (Some (O.written out.old)) (Some (O.written out.new))) result }
     ensures refused { EndsDrive (N.faults nodes.old) (N.faults nodes.new)
         (IsRefused (λ place. G.told reg.old → G.damaged reg.old place) (G.told reg.old → HoldsSome (G.holds reg.old) × LacksRoom (G.holds reg.new)) (G.faults reg.old) (G.faults reg.new)) result }
     ensures off { EndsDrive (N.faults nodes.old) (N.faults nodes.new) (IsOffAs (N.off nodes.new)) result }
@@ -157,7 +158,7 @@ pub(crate) fn tailed<O: Sink, G: Register, N: Nodes>(
     requires bounds { IsTailInBounds words.now }
     ensures tailed { (s : State) (far : Far) → N.tells nodes.old words.now.of.config far → Begins (HasNoReaders (G.tells reg.old)) words.now.of.config s far
         → (N.silent nodes.new ≡ true) ⊎ EndsDrive (N.faults nodes.old) (N.faults nodes.new)
-        (IsTailed (record { name = codes "r"; log = words.now.of.log; from = words.now.from; until = words.now.until; style = words.now.style }) (IsBroken (N.faults nodes.old) (N.faults nodes.new) (N.endings nodes.old) (N.endings nodes.new)) words.now.of.rounds (N.tells nodes.new) (G.tells reg.new) words.now.of.config s (O.written out.old) (O.written out.new)) result }
+        (IsTailed (record { name = codes "r"; log = words.now.of.log; from = words.now.from; until = words.now.until; style = words.now.style }) (IsBroken (N.faults nodes.old) (N.faults nodes.new) (N.endings nodes.old) (N.endings nodes.new)) words.now.of.rounds (N.tells nodes.new) (G.tells reg.new) words.now.of.config s (Some (O.written out.old)) (Some (O.written out.new))) result }
     ensures ends { EndsDrive (N.faults nodes.old) (N.faults nodes.new)
         (IsTailEnd (λ place. G.told reg.old → G.damaged reg.old place) (G.faults reg.old) (G.faults reg.new) (O.faults out.old) (O.faults out.new)) result }
     ensures only_looks { OnlyLooks (G.told reg.old) (G.told reg.new) (G.may_hold reg.old) (G.may_hold reg.new) }

@@ -1,7 +1,8 @@
 // The input, an event at a time.
-ghost use Rattle.std.specs.Prelude.{◌≡◌, ◌+◌, ◌≤◌, List, ℕ, IfOk, IfErr, IfSome};
+ghost use Rattle.std.specs.Prelude.{◌≡◌, ◌+◌, ◌≤◌, List, ℕ, length, IfOk, IfErr, IfSome};
 ghost use Rattle.std.specs.Io.KnownBytes.{prepend_known};
 ghost use Rattle.ld_config.specs.Bounds.{IsInBounds};
+ghost use Rattle.ld_io.specs.Input.{left_in};
 ghost use Rattle.ld_cli.specs.Input.{budget};
 ghost use Rattle.ld_cli.specs.NextEvent.{TakesFirst, OnFirst, AllowsFirst, TakesNext, OnTaken};
 ghost use Rattle.ld_cli.specs.Causes.{IsReadStop};
@@ -39,9 +40,10 @@ pub fn begin<I: Source>(
     input: &mut I,
     line: &mut Vec<u8>,
 ) -> Result<First, Stop>
-    ensures taken { IfOk result (TakesFirst (prepend_known buffer.old (I.left input.old)) (prepend_known buffer.new (I.left input.new))) }
+    ensures taken { (all : List ℕ) → I.may_be input.new all → IfOk result (TakesFirst (prepend_known buffer.old (left_in all (I.gave input.old))) (prepend_known buffer.new (left_in all (I.gave input.new)))) }
+    ensures fed { (all : List ℕ) → I.may_be input.new all → I.may_be input.old all }
     ensures bounds { IfOk result (AllowsFirst IsInBounds) }
-    ensures budget { IfOk result (OnFirst (budget buffer.new (I.given input.new) + 1 ≤ budget buffer.old (I.given input.old))) }
+    ensures budget { IfOk result (OnFirst (budget buffer.new (length (I.gave input.new)) + 1 ≤ budget buffer.old (length (I.gave input.old)))) }
     ensures later { I.faults input.old ≤ I.faults input.new }
     ensures cause { IfErr result (IsReadStop (I.faults input.old) (I.faults input.new)) }
 {
@@ -78,8 +80,9 @@ pub fn next_event<I: Source>(
     input: &mut I,
     line: &mut Vec<u8>,
 ) -> Result<Next, Stop>
-    ensures taken { IfOk result (TakesNext (prepend_known buffer.old (I.left input.old)) (prepend_known buffer.new (I.left input.new))) }
-    ensures budget { IfOk result (OnTaken (budget buffer.new (I.given input.new) + 1 ≤ budget buffer.old (I.given input.old))) }
+    ensures taken { (all : List ℕ) → I.may_be input.new all → IfOk result (TakesNext (prepend_known buffer.old (left_in all (I.gave input.old))) (prepend_known buffer.new (left_in all (I.gave input.new)))) }
+    ensures fed { (all : List ℕ) → I.may_be input.new all → I.may_be input.old all }
+    ensures budget { IfOk result (OnTaken (budget buffer.new (length (I.gave input.new)) + 1 ≤ budget buffer.old (length (I.gave input.old)))) }
     ensures later { I.faults input.old ≤ I.faults input.new }
     ensures cause { IfErr result (IsReadStop (I.faults input.old) (I.faults input.new)) }
 {

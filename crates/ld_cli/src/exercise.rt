@@ -1,5 +1,5 @@
 // A made schedule is played, and its transcript summed up.
-ghost use Rattle.std.specs.Prelude.{◌≡◌, ◌+◌, ◌*◌, ◌^◌, ℕ, OnOk, IfOk, IfErr};
+ghost use Rattle.std.specs.Prelude.{◌≡◌, ◌+◌, ◌*◌, ◌^◌, ℕ, [], Some, OnOk, IfOk, IfErr};
 ghost use Rattle.ld_machine.specs.Run.{step};
 ghost use Rattle.ld_cluster.specs.Standing.{config_of, state_of, IsReached};
 ghost use Rattle.ld_cluster.specs.Steps.{Counts};
@@ -30,7 +30,7 @@ struct Play {
 
 /// Plays the made schedule, and writes its summary.
 pub(crate) fn exercised<O: Sink>(alloc: Global, seed: u64, events: u32, out: &mut O) -> Status
-    ensures ends { EndsExercise seed events (O.written out.old) (O.written out.new) result }
+    ensures ends { EndsExercise seed events (Some (O.written out.old)) (Some (O.written out.new)) result }
     ensures write { result ≡ Status.Write → Rose (O.faults out.old) (O.faults out.new) }
     ensures replays { IsOfReplay result }
 {
@@ -48,8 +48,8 @@ pub(crate) fn exercised<O: Sink>(alloc: Global, seed: u64, events: u32, out: &mu
 ///
 /// Without memory nothing is written, and where the sink fails a part of the summary.
 fn exercise<O: Sink>(alloc: Global, seed: u64, events: u32, out: &mut O) -> Result<(), Stop>
-    ensures exercised { OnOk result (IsExercised seed events (O.written out.old) (O.written out.new)) }
-    ensures stopped { IfErr result (StopsExercise seed events (O.written out.old) (O.written out.new)) }
+    ensures exercised { OnOk result (IsExercised seed events (Some (O.written out.old)) (Some (O.written out.new))) }
+    ensures stopped { IfErr result (StopsExercise seed events (Some (O.written out.old)) (Some (O.written out.new))) }
     ensures cause { IfErr result (IsWriteStop (O.faults out.old) (O.faults out.new)) }
 {
     let tally = play_made(alloc, seed, events)?;
@@ -65,29 +65,64 @@ fn play_made(alloc: Global, seed: u64, events: u32) -> Result<Tally, NoMemory>
     ensures { IfOk result (λ counts. counts ≡ tally (made_lines seed events)) }
 {
     let mut play = begin(alloc)?;
+    let played = play_events(alloc, &mut play, seed, events);
+    let counts = play.tally;
+    drop(play);
+    match played {
+        Ok(()) => Ok(counts),
+        Err(failed) => Err(failed),
+    }
+}
+
+/// Plays the events of the made schedule behind its first ones.
+fn play_events(alloc: Global, play: &mut Play, seed: u64, events: u32) -> Result<(), NoMemory>
+    requires { HasPlayed play.old.cluster play.old.tally first_events (2 ^ 32) }
+    ensures { OnOk result (play.new.tally ≡ tally (made_lines seed events)) }
+{
     let mut maker = Maker::new(seed);
     'events: for _ in 0..events {
         let event = maker.next_event(alloc)?;
-        take(alloc, &mut play, &event)?;
+        take(alloc, play, &event)?;
     }
-    Ok(play.tally)
+    Ok(())
 }
 
 /// Plays the first events.
 fn begin(alloc: Global) -> Result<Play, NoMemory>
     ensures { IfOk result (λ play. HasPlayed play.cluster play.tally first_events (2 ^ 32)) }
 {
+    let mut play = new_play(alloc)?;
+    match play_first(alloc, &mut play) {
+        Ok(()) => Ok(play),
+        Err(failed) => {
+            drop(play);
+            Err(failed)
+        }
+    }
+}
+
+/// Plays no event yet.
+fn new_play(alloc: Global) -> Result<Play, NoMemory>
+    ensures { IfOk result (λ play. HasPlayed play.cluster play.tally [] (2 ^ 32 + 7)) }
+{
     let config = configuration(alloc)?;
     let cluster = Cluster::new(alloc, config)?;
-    let mut play = Play {
+    Ok(Play {
         cluster,
         tally: Tally::new(),
-    };
+    })
+}
+
+/// Plays the first events on a cluster that has played none.
+fn play_first(alloc: Global, play: &mut Play) -> Result<(), NoMemory>
+    requires { HasPlayed play.old.cluster play.old.tally [] (2 ^ 32 + 7) }
+    ensures { OnOk result (HasPlayed play.new.cluster play.new.tally first_events (2 ^ 32)) }
+{
     let events = first_events(alloc)?;
     for event in &events {
-        take(alloc, &mut play, event)?;
+        take(alloc, play, event)?;
     }
-    Ok(play)
+    Ok(())
 }
 
 /// Takes an event, and counts its lines.

@@ -2,6 +2,7 @@
 ghost use Rattle.std.specs.Prelude.{◌≡◌, ◌+◌, ◌<◌, ◌≤◌, List, ℕ, [], ◌∷◌, length, IfOk, OnOk, IfSome, MatchOption, MatchBool};
 ghost use Rattle.std.specs.Io.KnownBytes.{prepend_known, Consumes, Keeps, IsAtEnd};
 ghost use Rattle.ld_io.specs.Causes.{HasCause};
+ghost use Rattle.ld_io.specs.Input.{left_in};
 ghost use Rattle.ld_cli.specs.Input.{budget};
 
 use ld_io::{Failed, Source};
@@ -43,10 +44,12 @@ impl Buffer {
 
     /// Takes the next byte of the input.
     pub fn next_byte<I: Source>(&mut self, input: &mut I) -> Result<Option<u8>, Failed>
-        ensures taken { IfOk result (λ found. MatchOption found
-            (Keeps (prepend_known self.old (I.left input.old)) (prepend_known self.new (I.left input.new)) × IsAtEnd (prepend_known self.new (I.left input.new)))
-            (λ byte. Consumes (prepend_known self.old (I.left input.old)) (prepend_known self.new (I.left input.new)) (byte ∷ []))) }
-        ensures budget { IfOk result (λ found. IfSome found (λ _. budget self.new (I.given input.new) + 1 ≤ budget self.old (I.given input.old))) }
+        ensures taken { (all : List ℕ) → I.may_be input.new all → IfOk result (λ found. MatchOption found
+            (Keeps (prepend_known self.old (left_in all (I.gave input.old))) (prepend_known self.new (left_in all (I.gave input.new))) × IsAtEnd (prepend_known self.new (left_in all (I.gave input.new))))
+            (λ byte. Consumes (prepend_known self.old (left_in all (I.gave input.old))) (prepend_known self.new (left_in all (I.gave input.new))) (byte ∷ []))) }
+        ensures fed { (all : List ℕ) → I.may_be input.new all → I.may_be input.old all }
+        ensures steady { I.known input.new ≡ I.known input.old }
+        ensures budget { IfOk result (λ found. IfSome found (λ _. budget self.new (length (I.gave input.new)) + 1 ≤ budget self.old (length (I.gave input.old)))) }
         ensures cause { HasCause (I.faults input.old) (I.faults input.new) result }
     {
         if !self.fill(input)? {
@@ -57,9 +60,11 @@ impl Buffer {
 
     /// Reads where nothing is held. Says whether something is held now; nothing is at the end of the input.
     fn fill<I: Source>(&mut self, input: &mut I) -> Result<bool, Failed>
-        ensures kept { OnOk result (Keeps (prepend_known self.old (I.left input.old)) (prepend_known self.new (I.left input.new))) }
-        ensures held { IfOk result (λ held. MatchBool held (0 < length self.new) (IsAtEnd (prepend_known self.new (I.left input.new)))) }
-        ensures budget { OnOk result (budget self.new (I.given input.new) ≤ budget self.old (I.given input.old)) }
+        ensures kept { (all : List ℕ) → I.may_be input.new all → OnOk result (Keeps (prepend_known self.old (left_in all (I.gave input.old))) (prepend_known self.new (left_in all (I.gave input.new)))) }
+        ensures held { (all : List ℕ) → I.may_be input.new all → IfOk result (λ held. MatchBool held (0 < length self.new) (IsAtEnd (prepend_known self.new (left_in all (I.gave input.new))))) }
+        ensures fed { (all : List ℕ) → I.may_be input.new all → I.may_be input.old all }
+        ensures steady { I.known input.new ≡ I.known input.old }
+        ensures budget { OnOk result (budget self.new (length (I.gave input.new)) ≤ budget self.old (length (I.gave input.old))) }
         ensures cause { HasCause (I.faults input.old) (I.faults input.new) result }
     {
         if self.at < self.end {

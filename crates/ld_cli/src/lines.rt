@@ -1,7 +1,8 @@
 // The input, a line at a time.
-ghost use Rattle.std.specs.Prelude.{◌≡◌, ◌+◌, ◌<◌, ◌≤◌, List, ℕ, IfOk, IfErr, MatchResult};
+ghost use Rattle.std.specs.Prelude.{◌≡◌, ◌+◌, ◌<◌, ◌≤◌, List, ℕ, length, IfOk, IfErr, MatchResult};
 ghost use Rattle.std.specs.Io.KnownBytes.{prepend_known};
 ghost use Rattle.ld_io.specs.Causes.{Rose};
+ghost use Rattle.ld_io.specs.Input.{left_in};
 ghost use Rattle.ld_cli.specs.Input.{budget};
 ghost use Rattle.ld_cli.specs.Lines.{TakesLine, OnLine};
 ghost use Rattle.ld_cli.specs.declared.status.Stop.TheVariants.{NoMemory, Read};
@@ -33,8 +34,10 @@ pub fn next_line<I: Source>(
     input: &mut I,
     line: &mut Vec<u8>,
 ) -> Result<Ending, Stop>
-    ensures taken { IfOk result (TakesLine (prepend_known buffer.old (I.left input.old)) (prepend_known buffer.new (I.left input.new)) line.new.items) }
-    ensures budget { IfOk result (OnLine (budget buffer.new (I.given input.new) + 1 ≤ budget buffer.old (I.given input.old))) }
+    ensures taken { (all : List ℕ) → I.may_be input.new all → IfOk result (TakesLine (prepend_known buffer.old (left_in all (I.gave input.old))) (prepend_known buffer.new (left_in all (I.gave input.new))) line.new.items) }
+    ensures fed { (all : List ℕ) → I.may_be input.new all → I.may_be input.old all }
+    ensures steady { I.known input.new ≡ I.known input.old }
+    ensures budget { IfOk result (OnLine (budget buffer.new (length (I.gave input.new)) + 1 ≤ budget buffer.old (length (I.gave input.old)))) }
     ensures later { I.faults input.old ≤ I.faults input.new }
     ensures cause { IfErr result (IsReadStop (I.faults input.old) (I.faults input.new)) }
 {

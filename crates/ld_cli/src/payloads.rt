@@ -1,6 +1,7 @@
 // The payloads that the lines of the input spell.
 ghost use Rattle.std.specs.Prelude.{◌≡◌, ◌≤◌, [], true, false, IfOk, IfErr, MatchResult};
 ghost use Rattle.std.specs.Io.KnownBytes.{prepend_known};
+ghost use Rattle.ld_io.specs.Input.{left_of};
 ghost use Rattle.ld_ids.specs.Bytes.{AreBytes, hex_text};
 ghost use Rattle.ld_schedule.specs.Reading.{IsText};
 ghost use Rattle.ld_schedule.specs.Grammar.{IsBatch, messages_text};
@@ -129,7 +130,7 @@ impl Held {
         alloc: Global,
         input: &mut I,
     ) -> Result<Option<Payload>, InputFault>
-        ensures gives { Gives (input_after self.old.batches self.old.number (prepend_known self.old.buffer (I.left input.old))) (input_after self.new.batches self.new.number (prepend_known self.new.buffer (I.left input.new))) result }
+        ensures gives { Gives (input_after self.old.batches self.old.number (prepend_known self.old.buffer (left_of (I.known input.old) (I.gave input.old)))) (input_after self.new.batches self.new.number (prepend_known self.new.buffer (left_of (I.known input.new) (I.gave input.new)))) result }
         ensures later { I.faults input.old ≤ I.faults input.new }
         ensures cause { IfErr result (IsReadFault (I.faults input.old) (I.faults input.new)) }
     {
@@ -156,9 +157,10 @@ impl Held {
 
 impl<'a, I: Source> Payloads for PayloadLines<'a, I> {
     ghost use Rattle.std.specs.Io.KnownBytes.{prepend_known};
+    ghost use Rattle.ld_io.specs.Input.{left_of};
     ghost use Rattle.ld_cli.specs.Payloads.{input_after};
 
-    ghost coming = { λ p. input_after p.held.now.batches p.held.now.number (prepend_known p.held.now.buffer (I.left p.input.now)) };
+    ghost coming = { λ p. input_after p.held.now.batches p.held.now.number (prepend_known p.held.now.buffer (left_of (I.known p.input.now) (I.gave p.input.now))) };
 
     ghost faults = { λ p. I.faults p.input.now };
 

@@ -1,5 +1,5 @@
 // One event: a step of the cluster, and its lines.
-ghost use Rattle.std.specs.Prelude.{◌≡◌, ◌≤◌, ◌++◌, OnOk, IfErr, MatchResult};
+ghost use Rattle.std.specs.Prelude.{◌≡◌, ◌≤◌, ◌++◌, Some, OnOk, IfErr, MatchResult};
 ghost use Rattle.std.specs.Io.KnownBytes.{Appends};
 ghost use Rattle.ld_transcript.specs.Text.{text};
 ghost use Rattle.ld_machine.specs.Run.{step};
@@ -28,8 +28,8 @@ pub fn perform<O: Sink>(
     requires counts { Counts event.now }
     ensures step { OnOk result (IsTaken cluster.old event.now cluster.new) }
     ensures written { MatchResult result
-        (λ _. Appends (O.written out.old) (O.written out.new) (text (step (config_of cluster.old) (state_of cluster.old) event.now).lines))
-        (λ _. AppendsPart (O.written out.old) (O.written out.new) (text (step (config_of cluster.old) (state_of cluster.old) event.now).lines)) }
+        (λ _. Appends (Some (O.written out.old)) (Some (O.written out.new)) (text (step (config_of cluster.old) (state_of cluster.old) event.now).lines))
+        (λ _. AppendsPart (Some (O.written out.old)) (Some (O.written out.new)) (text (step (config_of cluster.old) (state_of cluster.old) event.now).lines)) }
     ensures later { O.faults out.old ≤ O.faults out.new }
     ensures cause { IfErr result (IsWriteStop (O.faults out.old) (O.faults out.new)) }
 {

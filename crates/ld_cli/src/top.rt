@@ -1,7 +1,7 @@
 // The top call.
-ghost use Rattle.std.specs.Prelude.{◌≡◌, ◌⊎◌, ⊤, ℕ, List, Some, true, false, codes, map, string_bytes, IfSome};
-ghost use Rattle.std.specs.Io.KnownBytes.{IsAtEnd};
+ghost use Rattle.std.specs.Prelude.{◌≡◌, ◌⊎◌, ⊤, ℕ, List, Some, true, false, codes, length, drop, map, string_bytes};
 ghost use Rattle.ld_io.specs.Causes.{Rose};
+ghost use Rattle.ld_io.specs.Input.{left_of};
 ghost use Rattle.ld_link.specs.Peers.{Peers};
 ghost use Rattle.ld_register.specs.Calls.{after_draw, ChangedOrNot};
 ghost use Rattle.ld_node.specs.Known.{known_in};
@@ -28,7 +28,7 @@ ghost use Rattle.ld_append.specs.Appends.{HasNone as HasNoSequencers, IsAppended
 ghost use Rattle.ld_tail.specs.Tails.{HasNone as HasNoReaders, IsTailed, IsTailEnd};
 ghost use Rattle.ld_cli.specs.Payloads.{payloads_in};
 ghost use Rattle.ld_cli.specs.Clients.{Drives, AskForNoDrive, EndsDrive, OnlyLooks};
-ghost use Rattle.ld_cli.specs.Ends.{EndsBy, IsSchedule, Completes};
+ghost use Rattle.ld_cli.specs.Ends.{EndsBy, IsReplayed, IsSchedule, Completes};
 ghost use Rattle.ld_cli.specs.Exercise.{EndsExercise};
 ghost use Rattle.ld_cli.specs.Serving.{EndsServing, DiskFaults, RegisterFaults, LinkFaults};
 
@@ -61,14 +61,18 @@ pub fn run<I: Source, O: Sink, D: Disk, G: Register, L: Link, N: Nodes>(
     ensures usage { result ≡ Status.Usage → IsNoCommand (map string_bytes words.now) }
     ensures refused { IsNoCommand (map string_bytes words.now) → (result ≡ Status.Usage) ⊎ (result ≡ Status.NoMemory) }
 
-    // `replay`: what was written, by how the run ends. At the status Ok the input was read to its end.
-    ensures replayed { Asks (map string_bytes words.now) Replay → IfSome (I.left input.old) (λ bytes. EndsBy bytes (O.written out.old) (O.written out.new) result) }
-    ensures read_to_end { Asks (map string_bytes words.now) Replay → result ≡ Status.Ok → IsAtEnd (I.left input.new) }
+    // `replay`: whatever the whole input may be, what was written in this call, by how the run ends. It may be no input that it
+    // couldn't be before.
+    ensures replayed { Asks (map string_bytes words.now) Replay → (all : List ℕ) → I.may_be input.new all → EndsBy (drop (length (I.gave input.old)) all) (Some (O.written out.old)) (Some (O.written out.new)) result }
+    ensures fed { Asks (map string_bytes words.now) Replay → (all : List ℕ) → I.may_be input.new all → I.may_be input.old all }
+    // At the status Ok the input was read to its end, and what was written in this call is the transcript of what was read in it.
+    ensures read_to_end { Asks (map string_bytes words.now) Replay → result ≡ Status.Ok → (all : List ℕ) → I.may_be input.new all → all ≡ I.gave input.new }
+    ensures transcribed { Asks (map string_bytes words.now) Replay → result ≡ Status.Ok → IsReplayed (drop (length (I.gave input.old)) (I.gave input.new)) (Some (O.written out.old)) (Some (O.written out.new)) }
     // A schedule is replayed to its end, unless the source, the sink or the memory fails.
-    ensures complete { Asks (map string_bytes words.now) Replay → IfSome (I.left input.old) (λ bytes. IsSchedule bytes → Completes (Rose (I.faults input.old) (I.faults input.new)) (Rose (O.faults out.old) (O.faults out.new)) result) }
+    ensures complete { Asks (map string_bytes words.now) Replay → (all : List ℕ) → I.may_be input.new all → IsSchedule (drop (length (I.gave input.old)) all) → Completes (Rose (I.faults input.old) (I.faults input.new)) (Rose (O.faults out.old) (O.faults out.new)) result }
 
     // `exercise`: the summary of the made schedule's run, unless the sink or the memory fails.
-    ensures exercised { (seed events : ℕ) → Asks (map string_bytes words.now) (Exercise seed events) → EndsExercise seed events (O.written out.old) (O.written out.new) result }
+    ensures exercised { (seed events : ℕ) → Asks (map string_bytes words.now) (Exercise seed events) → EndsExercise seed events (Some (O.written out.old)) (Some (O.written out.new)) result }
 
     // `node`: it was opened and has served its turns; or it was opened, and stopped while it served; or it wasn't opened.
     // Each stop has its cause. Where it was formatted, also where it stopped then, the register holds that one draw more.
@@ -100,7 +104,7 @@ pub fn run<I: Source, O: Sink, D: Disk, G: Register, L: Link, N: Nodes>(
     // last step may be done in part.
     ensures tailed { (t : TailWanted) (s : State) (far : Far) → Asks (map string_bytes words.now) (Tail t) → N.tells nodes.old t.of.config far → Begins (HasNoReaders (G.tells reg.old)) t.of.config s far
         → (N.silent nodes.new ≡ true) ⊎ EndsDrive (N.faults nodes.old) (N.faults nodes.new)
-        (IsTailed (record { name = codes "r"; log = t.of.log; from = t.from; until = t.until; style = t.style }) (IsBroken (N.faults nodes.old) (N.faults nodes.new) (N.endings nodes.old) (N.endings nodes.new)) t.of.rounds (N.tells nodes.new) (G.tells reg.new) t.of.config s (O.written out.old) (O.written out.new)) result }
+        (IsTailed (record { name = codes "r"; log = t.of.log; from = t.from; until = t.until; style = t.style }) (IsBroken (N.faults nodes.old) (N.faults nodes.new) (N.endings nodes.old) (N.endings nodes.new)) t.of.rounds (N.tells nodes.new) (G.tells reg.new) t.of.config s (Some (O.written out.old)) (Some (O.written out.new))) result }
     // Whatever they tell, each status has its cause: Register comes only where the register's count of faults rose, and Damaged
     // only where its bytes are no journal from that place on.
     ensures tail_ends { (t : TailWanted) → Asks (map string_bytes words.now) (Tail t) → EndsDrive (N.faults nodes.old) (N.faults nodes.new)
@@ -118,11 +122,11 @@ pub fn run<I: Source, O: Sink, D: Disk, G: Register, L: Link, N: Nodes>(
     // append is acknowledged, each epoch before its own is closed, and no message waits.
     ensures appended { (w : AppendWanted) (s : State) (far : Far) → Asks (map string_bytes words.now) (Append w) → N.tells nodes.old w.of.config far → Begins (HasNoSequencers (G.tells reg.old)) w.of.config s far → spec_set w.of.config s w.of.log ≡ first_spec w.of.config w.of.log
         → (N.silent nodes.new ≡ true) ⊎ EndsDrive (N.faults nodes.old) (N.faults nodes.new)
-        (IsAppended (codes "s") w.of.log (IsBroken (N.faults nodes.old) (N.faults nodes.new) (N.endings nodes.old) (N.endings nodes.new)) (payloads_in w.batches (I.left input.old)) w.of.rounds (N.tells nodes.new) (G.tells reg.new) w.of.config s (O.written out.old) (O.written out.new)) result }
+        (IsAppended (codes "s") w.of.log (IsBroken (N.faults nodes.old) (N.faults nodes.new) (N.endings nodes.old) (N.endings nodes.new)) (payloads_in w.batches (left_of (I.known input.old) (I.gave input.old))) w.of.rounds (N.tells nodes.new) (G.tells reg.new) w.of.config s (Some (O.written out.old)) (Some (O.written out.new))) result }
     // Whatever they tell: the count of their failures says which status the last round gives, and a line came before what it
     // refuses, or the register was damaged, or may have held as many other logs as may be.
     ensures append_ends { (w : AppendWanted) → Asks (map string_bytes words.now) (Append w) → EndsDrive (N.faults nodes.old) (N.faults nodes.new)
-        (IsEndOfAppend (G.told reg.old → MayCrowd (G.may_hold reg.old) w.of.log) (λ place. G.told reg.old → G.damaged reg.old place) (payloads_in w.batches (I.left input.old)) (I.faults input.old) (I.faults input.new) (O.faults out.old) (O.faults out.new) (O.written out.old) (O.written out.new)) result }
+        (IsEndOfAppend (G.told reg.old → MayCrowd (G.may_hold reg.old) w.of.log) (λ place. G.told reg.old → G.damaged reg.old place) (payloads_in w.batches (left_of (I.known input.old) (I.gave input.old))) (I.faults input.old) (I.faults input.new) (O.faults out.old) (O.faults out.new) (Some (O.written out.old)) (Some (O.written out.new))) result }
 
     // Register comes only where the register's count of faults rose. Where it didn't, and the register tells what it holds,
     // Damaged comes only where that was no journal from that place on, and JournalFull only where it was a whole one and what
@@ -169,10 +173,12 @@ fn carry_out<I: Source, O: Sink, D: Disk, G: Register, L: Link, N: Nodes>(
 ) -> Status
     requires bounds { HasBounds command }
     ensures usage { result ≡ Status.Usage → ⊥ }
-    ensures replayed { command ≡ Replay → IfSome (I.left input.old) (λ bytes. EndsBy bytes (O.written out.old) (O.written out.new) result) }
-    ensures read_to_end { command ≡ Replay → result ≡ Status.Ok → IsAtEnd (I.left input.new) }
-    ensures complete { command ≡ Replay → IfSome (I.left input.old) (λ bytes. IsSchedule bytes → Completes (Rose (I.faults input.old) (I.faults input.new)) (Rose (O.faults out.old) (O.faults out.new)) result) }
-    ensures exercised { (seed events : ℕ) → command ≡ Exercise seed events → EndsExercise seed events (O.written out.old) (O.written out.new) result }
+    ensures replayed { command ≡ Replay → (all : List ℕ) → I.may_be input.new all → EndsBy (drop (length (I.gave input.old)) all) (Some (O.written out.old)) (Some (O.written out.new)) result }
+    ensures fed { command ≡ Replay → (all : List ℕ) → I.may_be input.new all → I.may_be input.old all }
+    ensures read_to_end { command ≡ Replay → result ≡ Status.Ok → (all : List ℕ) → I.may_be input.new all → all ≡ I.gave input.new }
+    ensures transcribed { command ≡ Replay → result ≡ Status.Ok → IsReplayed (drop (length (I.gave input.old)) (I.gave input.new)) (Some (O.written out.old)) (Some (O.written out.new)) }
+    ensures complete { command ≡ Replay → (all : List ℕ) → I.may_be input.new all → IsSchedule (drop (length (I.gave input.old)) all) → Completes (Rose (I.faults input.old) (I.faults input.new)) (Rose (O.faults out.old) (O.faults out.new)) result }
+    ensures exercised { (seed events : ℕ) → command ≡ Exercise seed events → EndsExercise seed events (Some (O.written out.old)) (Some (O.written out.new)) result }
     ensures served { (n : Wanted) (start : Peers) → command ≡ Serve n → L.peers link.old ≡ Some start
         → EndsServing (HasServed (D.seen disk.old) (D.may_leave disk.new) (G.holds reg.old) (G.holds reg.new) n.id (known_in n.config) n.format start (L.peers link.new) n.turns)
         (λ stop. IsNotOpened (D.faults disk.old) (D.faults disk.new) (D.seen disk.old) (D.seen disk.new) (D.may_leave disk.old) (D.may_leave disk.new)
@@ -189,15 +195,15 @@ fn carry_out<I: Source, O: Sink, D: Disk, G: Register, L: Link, N: Nodes>(
     ensures drawn { (n : Wanted) → command ≡ Serve n → G.told reg.old → ChangedOrNot (G.may_hold reg.old) (G.may_hold reg.new) (λ c. after_draw c n.id) }
     ensures tailed { (t : TailWanted) (s : State) (far : Far) → command ≡ Tail t → N.tells nodes.old t.of.config far → Begins (HasNoReaders (G.tells reg.old)) t.of.config s far
         → (N.silent nodes.new ≡ true) ⊎ EndsDrive (N.faults nodes.old) (N.faults nodes.new)
-        (IsTailed (record { name = codes "r"; log = t.of.log; from = t.from; until = t.until; style = t.style }) (IsBroken (N.faults nodes.old) (N.faults nodes.new) (N.endings nodes.old) (N.endings nodes.new)) t.of.rounds (N.tells nodes.new) (G.tells reg.new) t.of.config s (O.written out.old) (O.written out.new)) result }
+        (IsTailed (record { name = codes "r"; log = t.of.log; from = t.from; until = t.until; style = t.style }) (IsBroken (N.faults nodes.old) (N.faults nodes.new) (N.endings nodes.old) (N.endings nodes.new)) t.of.rounds (N.tells nodes.new) (G.tells reg.new) t.of.config s (Some (O.written out.old)) (Some (O.written out.new))) result }
     ensures tail_ends { (t : TailWanted) → command ≡ Tail t → EndsDrive (N.faults nodes.old) (N.faults nodes.new)
         (IsTailEnd (λ place. G.told reg.old → G.damaged reg.old place) (G.faults reg.old) (G.faults reg.new) (O.faults out.old) (O.faults out.new)) result }
     ensures only_looks { (t : TailWanted) → command ≡ Tail t → OnlyLooks (G.told reg.old) (G.told reg.new) (G.may_hold reg.old) (G.may_hold reg.new) }
     ensures appended { (w : AppendWanted) (s : State) (far : Far) → command ≡ Append w → N.tells nodes.old w.of.config far → Begins (HasNoSequencers (G.tells reg.old)) w.of.config s far → spec_set w.of.config s w.of.log ≡ first_spec w.of.config w.of.log
         → (N.silent nodes.new ≡ true) ⊎ EndsDrive (N.faults nodes.old) (N.faults nodes.new)
-        (IsAppended (codes "s") w.of.log (IsBroken (N.faults nodes.old) (N.faults nodes.new) (N.endings nodes.old) (N.endings nodes.new)) (payloads_in w.batches (I.left input.old)) w.of.rounds (N.tells nodes.new) (G.tells reg.new) w.of.config s (O.written out.old) (O.written out.new)) result }
+        (IsAppended (codes "s") w.of.log (IsBroken (N.faults nodes.old) (N.faults nodes.new) (N.endings nodes.old) (N.endings nodes.new)) (payloads_in w.batches (left_of (I.known input.old) (I.gave input.old))) w.of.rounds (N.tells nodes.new) (G.tells reg.new) w.of.config s (Some (O.written out.old)) (Some (O.written out.new))) result }
     ensures append_ends { (w : AppendWanted) → command ≡ Append w → EndsDrive (N.faults nodes.old) (N.faults nodes.new)
-        (IsEndOfAppend (G.told reg.old → MayCrowd (G.may_hold reg.old) w.of.log) (λ place. G.told reg.old → G.damaged reg.old place) (payloads_in w.batches (I.left input.old)) (I.faults input.old) (I.faults input.new) (O.faults out.old) (O.faults out.new) (O.written out.old) (O.written out.new)) result }
+        (IsEndOfAppend (G.told reg.old → MayCrowd (G.may_hold reg.old) w.of.log) (λ place. G.told reg.old → G.damaged reg.old place) (payloads_in w.batches (left_of (I.known input.old) (I.gave input.old))) (I.faults input.old) (I.faults input.new) (O.faults out.old) (O.faults out.new) (Some (O.written out.old)) (Some (O.written out.new))) result }
     ensures append_refused { (w : AppendWanted) → command ≡ Append w → EndsDrive (N.faults nodes.old) (N.faults nodes.new)
         (IsRefused (λ place. G.told reg.old → G.damaged reg.old place) (G.told reg.old → HoldsSome (G.holds reg.old) × LacksRoom (G.holds reg.new)) (G.faults reg.old) (G.faults reg.new)) result }
     ensures off { Drives command → EndsDrive (N.faults nodes.old) (N.faults nodes.new) (IsOffAs (N.off nodes.new)) result }

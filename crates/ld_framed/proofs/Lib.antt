@@ -1,3 +1,4 @@
 pub mod Talks
 pub mod Writing
 pub mod Hearing
+pub mod Waiting

@@ -7,7 +7,7 @@ use crate::format::format;
 use crate::kept::{Formatted, Kept, Status};
 use crate::replace::replace;
 use crate::run::{answer, load};
-use crate::state::State;
+use crate::state::{State, put};
 use crate::tick::look;
 use ld_config::Config;
 use ld_disk::MemDisk;
@@ -77,7 +77,7 @@ impl Host {
         let state = mem::replace(&mut self.state, State::Gone);
         if let Some(mut disk) = state.into_disk() {
             disk.wipe();
-            self.state = State::Blank(disk);
+            put(&mut self.state, State::Blank(disk));
         }
     }
 
@@ -87,7 +87,7 @@ impl Host {
     {
         let state = mem::replace(&mut self.state, State::Gone);
         if let Some(disk) = state.into_disk() {
-            self.state = State::Down(disk);
+            put(&mut self.state, State::Down(disk));
         }
     }
 
@@ -98,7 +98,7 @@ impl Host {
         ensures { (c : Settings) (n : ℕ) (x : Node) → Stands c n self.old x → Stands c n self.new (with_fault x (record { left = left; crash = crash })) }
     {
         let state = mem::replace(&mut self.state, State::Gone);
-        self.state = state.armed(fault(left, crash));
+        put(&mut self.state, state.armed(fault(left, crash)));
     }
 
     /// Loads the node from its disk, in one writing call, with the nodes and the logs of the configuration.
@@ -110,7 +110,7 @@ impl Host {
             return Err(NoMemory);
         };
         let (state, kept) = load(alloc, self.id, disk, config)?;
-        self.state = state;
+        put(&mut self.state, state);
         Ok(kept)
     }
 
@@ -125,11 +125,11 @@ impl Host {
     {
         let state = mem::replace(&mut self.state, State::Gone);
         let State::Up(node) = state else {
-            self.state = state;
+            put(&mut self.state, state);
             return Ok((Kept::Written, Outbox::empty(alloc)));
         };
         let (state, kept, sends) = answer(alloc, node, msg)?;
-        self.state = state;
+        put(&mut self.state, state);
         Ok((kept, sends))
     }
 
@@ -147,11 +147,11 @@ impl Host {
     {
         let state = mem::replace(&mut self.state, State::Gone);
         let State::Blank(disk) = state else {
-            self.state = state;
+            put(&mut self.state, state);
             return Ok(Formatted::NotLoaded(Kept::Written));
         };
         let (state, formatted) = format(alloc, self.id, disk, config, reg)?;
-        self.state = state;
+        put(&mut self.state, state);
         Ok(formatted)
     }
 
@@ -169,11 +169,11 @@ impl Host {
     {
         let state = mem::replace(&mut self.state, State::Gone);
         let State::Up(node) = state else {
-            self.state = state;
+            put(&mut self.state, state);
             return Ok((Kept::Written, Ticked::Nothing));
         };
         let (state, kept, ticked) = look(alloc, node, log, reg)?;
-        self.state = state;
+        put(&mut self.state, state);
         Ok((kept, ticked))
     }
 

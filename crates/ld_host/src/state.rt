@@ -12,6 +12,7 @@ ghost use Rattle.ld_host.specs.Stands.{StandsAs};
 use crate::kept::Kept;
 use ld_disk::{Disk, Fault, MemDisk};
 use ld_node::Node;
+use std::mem;
 
 /// A host's disk, and the node that runs on it where one runs.
 #[derive(Drop)]
@@ -80,4 +81,11 @@ pub(crate) fn fallen(mut disk: MemDisk) -> (State, Kept)
     }
     disk.restart();
     (State::Down(disk), Kept::Crashed)
+}
+
+/// Puts a state in the place of another. What was there goes to a call, so that no proof here goes through it.
+pub(crate) fn put(slot: &mut State, state: State)
+    ensures { slot.new ≡ state }
+{
+    drop(mem::replace(slot, state));
 }

@@ -2,10 +2,10 @@
 use Rattle.std.specs.Prelude.{ℕ, ◌+◌, ◌-◌, ◌^◌, min, List, length, Bool, true, ◌==◌, ◌&&◌, not, nat_lt, if◌then◌else◌}
 use Rattle.std.specs.List.{list_any}
 
--- what is left, how many bytes were given, how many calls there were, which calls are to fail, and how many have failed
+-- what was given, what is left, how many calls there were, which calls are to fail, and how many have failed
 pub record SourceState : Type 0 where
+  pub gave : List ℕ
   pub left : List ℕ
-  pub given : ℕ
   pub calls : ℕ
   pub fails : List ℕ
   pub faults : ℕ
@@ -28,7 +28,7 @@ one_more calls = min (calls + 1) (2 ^ 64 - 1)
 
 -- the next read succeeds: it isn't listed, and the source hasn't given all that it may
 abbrev pub read_succeeds : SourceState → Bool
-read_succeeds s = not (is_listed s.calls s.fails) && nat_lt s.given (2 ^ 63 - 1)
+read_succeeds s = not (is_listed s.calls s.fails) && nat_lt (length s.gave) (2 ^ 63 - 1)
 
 -- how many bytes the sink takes of a piece
 abbrev pub taken : SinkState → List ℕ → ℕ

@@ -1,8 +1,8 @@
 // A source and a sink in memory, which fail where they are told to.
-ghost use Rattle.std.specs.Prelude.{◌≡◌, ◌≤◌, ◌+◌, ◌++◌, ◌-◌, ◌^◌, ◌<◌, List, [], ℕ, Some, IfOk, OnOk, MatchResult, is_ok, length, drop, min};
+ghost use Rattle.std.specs.Prelude.{◌≡◌, ◌≤◌, ◌+◌, ◌++◌, ◌-◌, ◌^◌, ◌<◌, List, [], ℕ, Some, IfOk, OnOk, MatchResult, is_ok, length, take, min};
 ghost use Rattle.std.specs.Vec.{vec_capacity};
 ghost use Rattle.std.specs.Io.{ReadsAtMost, WritesAtMost};
-ghost use Rattle.std.specs.Io.KnownBytes.{ReadConsumes, WriteAppends};
+ghost use Rattle.std.specs.Io.KnownBytes.{ReadConsumes};
 ghost use Rattle.ld_io.specs.Causes.{Counts, HasCause};
 ghost use Rattle.ld_io.specs.Memory.{is_listed, one_more, read_succeeds, write_succeeds, taken};
 
@@ -24,12 +24,12 @@ pub struct MemSource {
 }
 
 impl Model for MemSource {
-    ghost use Rattle.std.specs.Prelude.{◌≤◌, length, drop};
+    ghost use Rattle.std.specs.Prelude.{◌≤◌, length, take, drop};
     ghost use Rattle.ld_io.specs.Memory.{SourceState};
 
     ghost Value = { SourceState };
 
-    ghost view = { λ s. record { left = drop s.at s.bytes.items; given = s.at; calls = s.calls; fails = s.fails.items; faults = s.faults } };
+    ghost view = { λ s. record { gave = take s.at s.bytes.items; left = drop s.at s.bytes.items; calls = s.calls; fails = s.fails.items; faults = s.faults } };
 
     ghost invariant = { λ s. s.at ≤ length s.bytes.items };
 }
@@ -37,7 +37,7 @@ impl Model for MemSource {
 impl MemSource {
     /// A source of these bytes, whose calls with these numbers, from 0 on, are to fail.
     pub fn new(bytes: Vec<u8>, fails: Vec<u64>) -> MemSource
-        ensures { result ≡ record { left = bytes.items; given = 0; calls = 0; fails = fails.items; faults = 0 } }
+        ensures { result ≡ record { gave = []; left = bytes.items; calls = 0; fails = fails.items; faults = 0 } }
     {
         MemSource {
             bytes,
@@ -60,19 +60,31 @@ fn is_next_to_fail(calls: &mut u64, fails: &[u64]) -> bool
 }
 
 impl Source for MemSource {
-    ghost left = { λ s. Some s.left };
+    ghost use Rattle.ld_io.specs.Input.{IsSome};
+    ghost use Rattle.std.proofs.Common.{refl};
+
+    ghost gave = { λ s. s.gave };
+
+    ghost may_be = { λ s all. all ≡ s.gave ++ s.left };
+
+    ghost known = { λ s. Some (s.gave ++ s.left) };
 
     ghost faults = { λ s. s.faults };
 
-    ghost given = { λ s. s.given };
+    ghost begins = { λ s all is. record { rest = s.left; is = is } };
+
+    ghost some = { λ s. record { all = s.gave ++ s.left; may = refl } };
+
+    ghost knows = { λ s. refl };
 
     /// Gives as much as there is and as the buffer takes, exactly where the call isn't listed and fewer than
     /// 2^63-1 bytes were given.
     fn read(&mut self, buf: &mut [u8]) -> Result<usize, Failed>
         ensures bound { ReadsAtMost result buf.new }
         ensures bytes { ReadConsumes (Some self.old.left) (Some self.new.left) result buf.new }
-        ensures given { MatchResult result (λ n. Counts self.old.given self.new.given n) (λ _. self.new.given ≡ self.old.given) }
-        ensures most { OnOk result (self.old.given < 2 ^ 63 - 1) }
+        ensures gives { MatchResult result (λ n. self.new.gave ≡ self.old.gave ++ take n buf.new) (λ _. self.new.gave ≡ self.old.gave) }
+        ensures given { MatchResult result (λ n. Counts (length self.old.gave) (length self.new.gave) n) (λ _. self.new.gave ≡ self.old.gave) }
+        ensures most { OnOk result (length self.old.gave < 2 ^ 63 - 1) }
         ensures cause { HasCause self.old.faults self.new.faults result }
         ensures told { is_ok result ≡ read_succeeds self.old }
         ensures all { IfOk result (λ n. n ≡ min (length self.old.left) (length buf.new)) }
@@ -144,7 +156,7 @@ fn extend_within(bytes: &mut Vec<u8>, more: &[u8])
 }
 
 impl Sink for MemSink {
-    ghost written = { λ s. Some s.written };
+    ghost written = { λ s. s.written };
 
     ghost faults = { λ s. s.faults };
 
@@ -153,7 +165,7 @@ impl Sink for MemSink {
     fn write(&mut self, piece: &[u8]) -> Result<usize, Failed>
         ensures bound { WritesAtMost result piece.now }
         ensures some { IfOk result (λ n. 0 < length piece.now → 0 < n) }
-        ensures bytes { WriteAppends (Some self.old.written) (Some self.new.written) result piece.now }
+        ensures bytes { MatchResult result (λ n. self.new.written ≡ self.old.written ++ take n piece.now) (λ _. self.new.written ≡ self.old.written) }
         ensures cause { HasCause self.old.faults self.new.faults result }
         ensures told { is_ok result ≡ write_succeeds self.old piece.now }
         ensures all { IfOk result (λ n. n ≡ taken self.old piece.now) }

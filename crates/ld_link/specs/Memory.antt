@@ -1,10 +1,12 @@
 -- A link in memory, as contracts see it.
 use Rattle.std.specs.Prelude.{ℕ, ◌-◌, min, List, length, Bool, true, not, ◌==◌, ◌&&◌, if◌then◌else◌, ◌++◌, Option, None, Some}
 use Rattle.ld_io.specs.Memory.{is_listed}
+use Rattle.ld_past.specs.Events.{Event}
 use Rattle.ld_link.specs.Peers.{Talk, Peers, as_list}
 
--- its peers, how many bytes each of them takes, how many calls there were, which calls are to fail, and how many have failed
+-- its calls that answered, its peers, how many bytes each of them takes, how many calls there were, which calls are to fail, and how many have failed
 pub record LinkState : Type 0 where
+  pub did : List Event
   pub peers : Peers
   pub room : ℕ
   pub calls : ℕ

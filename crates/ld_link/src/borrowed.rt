@@ -5,6 +5,8 @@ use ld_io::Failed;
 impl<L: Link> Link for &mut L {
     ghost peers = { λ l. L.peers l.now };
 
+    ghost did = { λ l. L.did l.now };
+
     ghost faults = { λ l. L.faults l.now };
 
     fn next_peer(&mut self) -> Result<bool, Failed> {

@@ -1,9 +1,11 @@
 //! Links: peers that come or are dialed, one after the other, each with bytes in and out, and the faults of a link's calls.
 #![tactic(auto)]
 
-ghost use Rattle.std.specs.Prelude.{◌≡◌, ◌<◌, ◌≤◌, ℕ, length, IfOk, IfSome, Option};
+ghost use Rattle.std.specs.Prelude.{◌≡◌, ◌<◌, ◌≤◌, ℕ, List, length, IfOk, IfSome, Option};
 ghost use Rattle.std.specs.Io.{ReadsAtMost, WritesAtMost};
 ghost use Rattle.ld_io.specs.Causes.{HasCause};
+ghost use Rattle.ld_past.specs.Events.{Event};
+ghost use Rattle.ld_link.specs.Calls.{after_next, after_read, after_write, after_dial};
 ghost use Rattle.ld_link.specs.Peers.{Peers, Turns, Reads, Writes, Reaches};
 
 mod borrowed;
@@ -20,12 +22,16 @@ pub trait Link {
     /// where the link tells.
     ghost peers: { Self → Option Peers };
 
+    /// The calls that answered, each with what passed in it, the newest first. Every link tells them.
+    ghost did: { Self → List Event };
+
     /// How often a call has failed, up to the greatest 64-bit number.
     ghost faults: { Self → ℕ };
 
     /// Makes the next peer the present one, whatever the one before has left to say. It answers false exactly where
     /// there is no next peer, and then the present one stays. A failed call changes no peer.
     fn next_peer(&mut self) -> Result<bool, Failed>
+        ensures did { did self.new ≡ after_next result (did self.old) }
         ensures peer { IfSome (peers self.old) (λ old. Turns old (peers self.new) result) }
         ensures cause { HasCause (faults self.old) (faults self.new) result };
 
@@ -33,6 +39,7 @@ pub trait Link {
     /// end, or says that none has come. A failed call takes nothing.
     fn read(&mut self, buf: &mut [u8]) -> Result<usize, Failed>
         ensures bound { ReadsAtMost result buf.new }
+        ensures did { did self.new ≡ after_read result buf.new (did self.old) }
         ensures bytes { IfSome (peers self.old) (λ old. Reads old (peers self.new) buf.new result) }
         ensures cause { HasCause (faults self.old) (faults self.new) result };
 
@@ -41,6 +48,7 @@ pub trait Link {
     fn write(&mut self, piece: &[u8]) -> Result<usize, Failed>
         ensures bound { WritesAtMost result piece.now }
         ensures some { IfOk result (λ n. 0 < length piece.now → 0 < n) }
+        ensures did { did self.new ≡ after_write result piece.now (did self.old) }
         ensures bytes { IfSome (peers self.old) (λ old. Writes old (peers self.new) piece.now result) }
         ensures cause { HasCause (faults self.old) (faults self.new) result };
 }
@@ -50,6 +58,7 @@ pub trait Dial: Link {
     /// Makes the node of this number the present peer, beside those that are still to come. The one before is past,
     /// whatever it has left to say. A failed call changes no peer.
     fn dial(&mut self, node: u8) -> Result<(), Failed>
+        ensures did { Self.did self.new ≡ after_dial result node (Self.did self.old) }
         ensures peer { IfSome (Self.peers self.old) (λ old. Reaches old (Self.peers self.new) result) }
         ensures cause { HasCause (Self.faults self.old) (Self.faults self.new) result };
 

@@ -6,12 +6,14 @@ ghost use Rattle.std.specs.Vec.{vec_capacity};
 ghost use Rattle.std.specs.Io.{ReadsAtMost, WritesAtMost};
 ghost use Rattle.ld_io.specs.Causes.{HasCause};
 ghost use Rattle.ld_io.specs.Memory.{is_listed, one_more};
+ghost use Rattle.ld_link.specs.Calls.{after_next, after_read, after_write};
 ghost use Rattle.ld_link.specs.Memory.{call_succeeds, write_succeeds, taken, talks};
 ghost use Rattle.ld_link.specs.Peers.{Turns, Reads, Writes, as_list, left_of};
 
 use crate::talk::{Coming, MemTalk, Outgoing};
 use crate::{Dial, Link};
 use ld_io::{Failed, NoMemory};
+use ld_past::Past;
 use std::alloc::Global;
 use std::marker::Model;
 
@@ -22,6 +24,7 @@ pub struct MemLink {
     past: Vec<MemTalk>,
     present: Option<MemTalk>,
     coming: Vec<Coming>,
+    did: Past,
     room: usize,
     calls: u64,
     fails: Vec<u64>,
@@ -38,7 +41,7 @@ impl Model for MemLink {
 
     ghost Value = { LinkState };
 
-    ghost view = { λ l. record { peers = record { past = map (λ t. t.talk) l.past.items; present = option_map (λ t. t.talk) l.present; coming = map (λ c. c.bytes) l.coming.items }; room = l.room; calls = l.calls; fails = l.fails.items; faults = l.faults } };
+    ghost view = { λ l. record { did = l.did.events; peers = record { past = map (λ t. t.talk) l.past.items; present = option_map (λ t. t.talk) l.present; coming = map (λ c. c.bytes) l.coming.items }; room = l.room; calls = l.calls; fails = l.fails.items; faults = l.faults } };
 
     ghost invariant = { λ l. (length l.past.items + length (as_list l.present) + length l.coming.items ≤ vec_capacity l.past) × (IfSome l.present (λ t. t.room ≡ l.room)) × (All (λ c. c.room ≡ l.room) l.coming.items) };
 }
@@ -52,7 +55,7 @@ impl MemLink {
         room: usize,
         fails: Vec<u64>,
     ) -> Result<MemLink, NoMemory>
-        ensures { IfOk result (λ link. link ≡ record { peers = record { past = []; present = None; coming = map (λ p. p.items) peers.items }; room = room; calls = 0; fails = fails.items; faults = 0 }) }
+        ensures { IfOk result (λ link. link ≡ record { did = []; peers = record { past = []; present = None; coming = map (λ p. p.items) peers.items }; room = room; calls = 0; fails = fails.items; faults = 0 }) }
     {
         let past = Vec::with_capacity(alloc, peers.len())?;
         let coming = coming_peers(alloc, peers, room)?;
@@ -60,6 +63,7 @@ impl MemLink {
             past,
             present: None,
             coming,
+            did: Past::new(),
             room,
             calls: 0,
             fails,
@@ -140,10 +144,13 @@ fn put_behind(past: &mut Vec<MemTalk>, talk: Option<MemTalk>)
 impl Link for MemLink {
     ghost peers = { λ l. Some l.peers };
 
+    ghost did = { λ l. l.did };
+
     ghost faults = { λ l. l.faults };
 
     /// Fails exactly where the call is listed.
     fn next_peer(&mut self) -> Result<bool, Failed>
+        ensures did { self.new.did ≡ after_next result self.old.did }
         ensures peer { Turns self.old.peers (Some self.new.peers) result }
         ensures cause { HasCause self.old.faults self.new.faults result }
         ensures told { is_ok result ≡ call_succeeds self.old }
@@ -157,6 +164,7 @@ impl Link for MemLink {
             Some(next) => {
                 put_behind(&mut self.past, self.present.take());
                 self.present = Some(next.begin());
+                self.did.note(&[0], &[]);
                 Ok(true)
             }
             None => Ok(false),
@@ -166,6 +174,7 @@ impl Link for MemLink {
     /// Gives as much as is left of the present peer and as the buffer takes, exactly where the call isn't listed.
     fn read(&mut self, buf: &mut [u8]) -> Result<usize, Failed>
         ensures bound { ReadsAtMost result buf.new }
+        ensures did { self.new.did ≡ after_read result buf.new self.old.did }
         ensures bytes { Reads self.old.peers (Some self.new.peers) buf.new result }
         ensures cause { HasCause self.old.faults self.new.faults result }
         ensures told { is_ok result ≡ call_succeeds self.old }
@@ -176,10 +185,12 @@ impl Link for MemLink {
         if self.is_next_to_fail() {
             return Err(count_fault(&mut self.faults));
         }
-        match &mut self.present {
-            Some(talk) => Ok(talk.read(buf)),
-            None => Ok(0),
-        }
+        let count = match &mut self.present {
+            Some(talk) => talk.read(buf),
+            None => 0,
+        };
+        self.did.note(&[2], &buf[..count]);
+        Ok(count)
     }
 
     /// Takes as much as the present peer has room for, exactly where the call isn't listed and a byte is taken of a
@@ -187,6 +198,7 @@ impl Link for MemLink {
     fn write(&mut self, piece: &[u8]) -> Result<usize, Failed>
         ensures bound { WritesAtMost result piece.now }
         ensures some { IfOk result (λ n. 0 < length piece.now → 0 < n) }
+        ensures did { self.new.did ≡ after_write result piece.now self.old.did }
         ensures bytes { Writes self.old.peers (Some self.new.peers) piece.now result }
         ensures cause { HasCause self.old.faults self.new.faults result }
         ensures told { is_ok result ≡ write_succeeds self.old piece.now }
@@ -204,6 +216,7 @@ impl Link for MemLink {
         if count == 0 && !piece.is_empty() {
             return Err(count_fault(&mut self.faults));
         }
+        self.did.note(&[3], &piece[..count]);
         Ok(count)
     }
 }

@@ -1,43 +1,96 @@
 // A disk over a file.
-ghost use Rattle.std.specs.Prelude.{◌≡◌, ◌<◌, ◌≤◌, ◌^◌, length, None, Ok, IfOk, OnOk, OnErr, is_ok, is_some, true, false};
+ghost use Rattle.std.specs.Prelude.{◌≡◌, ◌<◌, ◌≤◌, ◌^◌, length, None, Some, Ok, IfOk, IfErr, OnOk, OnErr, is_ok, is_some, true, false};
+ghost use Rattle.std.specs.IoError.{error_kind};
 ghost use Rattle.ld_io.specs.Causes.{HasCause};
 
+use crate::SharedFile;
+use crate::opening::{Sharing, open, room_for_name};
 use ld_disk::{Disk, Fault};
 use ld_io::{Failed, NoMemory};
-use std::fs::{File, OpenOptions};
+use std::alloc::Global;
+use std::io;
 use std::io::ErrorKind;
-use std::os::unix::fs::FileExt;
-use std::path::Path;
 use std::rt::Files;
-use std::{fs, io};
 
-/// A disk over a file, which is opened at the first call. A file that isn't there is made with the byte 0, and is safe
-/// from a crash before that call answers.
+/// A disk over a file, which is opened at the first call. What an earlier process couldn't bring to the disk is settled
+/// then, before anything is read.
 ///
 /// A `sync` that answers Ok has brought all bytes to the disk. Once one has failed no later one succeeds, since the
 /// system may have dropped what it couldn't write.
 #[derive(Drop)]
-pub struct FileDisk<'a, R: Files<File = File>> {
+pub struct FileDisk<'a, R: Files<File = F>, F: SharedFile> {
     rt: &'a R,
     path: &'a str,
-    file: Option<File>,
+    sharing: Sharing,
+    name: Option<String>,
+    file: Option<F>,
     sync_failed: bool,
     faults: u64,
+    cause: Option<ErrorKind>,
 }
 
-impl<'a, R: Files<File = File>> FileDisk<'a, R> {
-    /// A disk over the file at this path, which isn't opened yet. No call has failed yet.
-    pub fn new(rt: &'a R, path: &'a str) -> FileDisk<'a, R>
+impl<'a, R: Files<File = F>, F: SharedFile> FileDisk<'a, R, F> {
+    /// A disk over the file at this path, which isn't opened yet. No call has failed yet. A file that isn't there is made
+    /// with the byte 0, and is safe from a crash before that call answers. As long as the disk lives no other process opens
+    /// the file so: the first call fails where one has.
+    pub fn new(alloc: Global, rt: &'a R, path: &'a str) -> Result<FileDisk<'a, R, F>, NoMemory>
+        ensures path { IfOk result (λ disk. disk.path.now ≡ path.now) }
+        ensures faults { IfOk result (λ disk. disk.faults ≡ 0) }
+    {
+        let name = room_for_name(alloc, path)?;
+        Ok(FileDisk::over(rt, path, Sharing::Alone, Some(name)))
+    }
+
+    /// The same, but each opening waits until the other processes that open the file in turn have closed it.
+    pub(crate) fn made_in_turn(
+        alloc: Global,
+        rt: &'a R,
+        path: &'a str,
+    ) -> Result<FileDisk<'a, R, F>, NoMemory>
+        ensures path { IfOk result (λ disk. disk.path.now ≡ path.now) }
+        ensures faults { IfOk result (λ disk. disk.faults ≡ 0) }
+    {
+        let name = room_for_name(alloc, path)?;
+        Ok(FileDisk::over(rt, path, Sharing::InTurn, Some(name)))
+    }
+
+    /// The same, over a file that is there: where it isn't, each call fails and makes none.
+    pub(crate) fn in_turn(rt: &'a R, path: &'a str) -> FileDisk<'a, R, F>
+        ensures path { result.path.now ≡ path.now }
+        ensures faults { result.faults ≡ 0 }
+    {
+        FileDisk::over(rt, path, Sharing::InTurn, None)
+    }
+
+    /// Over a file that is there and that is only read, while other processes may change it.
+    pub(crate) fn shared(rt: &'a R, path: &'a str) -> FileDisk<'a, R, F>
+        ensures path { result.path.now ≡ path.now }
+        ensures faults { result.faults ≡ 0 }
+    {
+        FileDisk::over(rt, path, Sharing::Shared, None)
+    }
+
+    fn over(rt: &'a R, path: &'a str, sharing: Sharing, name: Option<String>) -> FileDisk<'a, R, F>
         ensures path { result.path.now ≡ path.now }
         ensures faults { result.faults ≡ 0 }
     {
         FileDisk {
             rt,
             path,
+            sharing,
+            name,
             file: None,
             sync_failed: false,
             faults: 0,
+            cause: None,
         }
+    }
+
+    /// The system's reason for the last call that failed.
+    pub fn cause(&self) -> Option<ErrorKind>
+        ensures { result ≡ self.now.cause }
+    {
+        self.cause
     }
 
     /// Opens the file where it isn't open.
@@ -47,7 +100,7 @@ impl<'a, R: Files<File = File>> FileDisk<'a, R> {
         ensures open { is_ok result ≡ is_some self.new.file }
     {
         if self.file.is_none() {
-            self.file = Some(open(self.rt, self.path)?);
+            self.file = Some(open(self.rt, self.path, self.sharing, &mut self.name)?);
         }
         Ok(())
     }
@@ -98,11 +151,13 @@ impl<'a, R: Files<File = File>> FileDisk<'a, R> {
     fn count<T: Drop>(&mut self, answer: io::Result<T>) -> Result<T, Failed>
         ensures cause { HasCause self.old.faults self.new.faults result }
         ensures value { IfOk result (λ v. answer ≡ Ok v) }
+        ensures told { IfErr answer (λ error. self.new.cause ≡ Some (error_kind error)) }
     {
         match answer {
             Ok(value) => Ok(value),
-            Err(_) => {
+            Err(error) => {
                 self.faults = self.faults.saturating_add(1);
+                self.cause = Some(error.kind());
                 Err(Failed)
             }
         }
@@ -110,7 +165,7 @@ impl<'a, R: Files<File = File>> FileDisk<'a, R> {
 }
 
 /// The file that was opened.
-fn opened(file: &Option<File>) -> io::Result<&File>
+fn opened<F: SharedFile>(file: &Option<F>) -> io::Result<&F>
     ensures { is_ok result ≡ is_some file.now }
 {
     match file {
@@ -119,48 +174,8 @@ fn opened(file: &Option<File>) -> io::Result<&File>
     }
 }
 
-/// Opens the file, or makes it with the byte 0.
-fn open<R: Files<File = File>>(rt: &R, path: &str) -> io::Result<File> {
-    match OpenOptions::new().read(true).write(true).open(rt, path) {
-        Ok(file) => Ok(file),
-        Err(error) if error.kind() == ErrorKind::NotFound => make(rt, path),
-        Err(error) => Err(error),
-    }
-}
-
-/// Makes the file with the byte 0. Where that can't be made safe the file is taken away again.
-fn make<R: Files<File = File>>(rt: &R, path: &str) -> io::Result<File> {
-    let file = OpenOptions::new()
-        .read(true)
-        .write(true)
-        .create_new(true)
-        .open(rt, path)?;
-    match begin(rt, path, &file) {
-        Ok(()) => Ok(file),
-        Err(error) => {
-            let _ = fs::remove_file(rt, path);
-            Err(error)
-        }
-    }
-}
-
-/// Writes the byte 0, and syncs the file and the folder that names it.
-fn begin<R: Files<File = File>>(rt: &R, path: &str, file: &File) -> io::Result<()> {
-    file.write_all_at(&[0], 0)?;
-    file.sync_all()?;
-    fs::open(rt, folder_of(path))?.sync_all()
-}
-
-/// The folder that names the file.
-fn folder_of(path: &str) -> &str {
-    match Path::new(path).parent() {
-        Some(folder) if !folder.as_str().is_empty() => folder.as_str(),
-        _ => ".",
-    }
-}
-
 /// Reads until the buffer is full or the file ends, and says how much was read.
-fn read_whole(file: &File, at: u64, buf: &mut [u8]) -> io::Result<usize>
+fn read_whole<F: SharedFile>(file: &F, at: u64, buf: &mut [u8]) -> io::Result<usize>
     ensures bound { IfOk result (λ n. n ≤ length buf.new) }
     ensures len { length buf.new ≡ length buf.old }
 {
@@ -180,7 +195,7 @@ fn read_whole(file: &File, at: u64, buf: &mut [u8]) -> io::Result<usize>
 }
 
 /// Brings the bytes to the disk, and their number where that grew.
-fn sync_data(file: &File) -> io::Result<()> {
+fn sync_data<F: SharedFile>(file: &F) -> io::Result<()> {
     for _ in 0..u64::MAX {
         match file.sync_data() {
             Err(error) if error.kind() == ErrorKind::Interrupted => {}
@@ -190,7 +205,7 @@ fn sync_data(file: &File) -> io::Result<()> {
     Err(ErrorKind::Interrupted.into())
 }
 
-impl<'a, R: Files<File = File>> Disk for FileDisk<'a, R> {
+impl<'a, R: Files<File = F>, F: SharedFile> Disk for FileDisk<'a, R, F> {
     ghost use Rattle.std.specs.Prelude.{◌≡◌, ◌<◌, ◌≤◌, ◌^◌, ℕ, List, None, Some};
     ghost use Rattle.std.specs.Option.{option_map};
     ghost use Rattle.ld_real.specs.Telling.{nothing_told};

@@ -1,27 +1,33 @@
 // A register in a file that other programs use too.
-ghost use Rattle.std.specs.Prelude.{◌≡◌, ◌⊎◌, ◌≤◌, IsErrOf};
+ghost use Rattle.std.specs.Prelude.{◌≡◌, ◌⊎◌, ◌≤◌, IsErrOf, IfOk, OnErr};
 ghost use Rattle.ld_io.specs.Causes.{Rose};
+ghost use Rattle.ld_register.specs.Calls.{IsView, IsFree};
 
-use crate::FileDisk;
+use crate::{FileDisk, SharedFile};
 use ld_ids::{LogId, NodeId, Spec};
 use ld_msg::Summary;
 use ld_register::{DiskRegister, Drawn, Grant, Register, RegisterFault, View};
 use std::alloc::Global;
-use std::fs::File;
+use std::io::ErrorKind;
 use std::rt::Files;
 
-/// A register in a file. Each call loads it anew, so that it sees what other programs have changed since the call before. A
-/// load writes nothing. Of two calls at the same time that change it one may be lost, or both, with all behind them.
+/// How often a look that finds damage is made again.
+const LOOKS: u32 = 8;
+
+/// A register in a file. Each call loads it anew, so that it sees what other processes have changed since the call before. A
+/// load writes nothing. Calls that change it wait for one another, also those of other processes, from before the load until
+/// the change is made. Looks wait for nobody. The file is made by a draw, and by no other call: where it isn't there they fail.
 #[derive(Drop)]
-pub struct FileRegister<'a, R: Files<File = File>> {
+pub struct FileRegister<'a, R: Files<File = F>, F: SharedFile> {
     rt: &'a R,
     path: &'a str,
     faults: u64,
+    cause: Option<ErrorKind>,
 }
 
-impl<'a, R: Files<File = File>> FileRegister<'a, R> {
+impl<'a, R: Files<File = F>, F: SharedFile> FileRegister<'a, R, F> {
     /// The register in the file at this path, which no call has opened yet.
-    pub fn new(rt: &'a R, path: &'a str) -> FileRegister<'a, R>
+    pub fn new(rt: &'a R, path: &'a str) -> FileRegister<'a, R, F>
         ensures path { result.path.now ≡ path.now }
         ensures faults { result.faults ≡ 0 }
     {
@@ -29,27 +35,72 @@ impl<'a, R: Files<File = File>> FileRegister<'a, R> {
             rt,
             path,
             faults: 0,
+            cause: None,
         }
     }
 
-    /// The register as the file has it when it is called first.
-    fn fresh(&self, alloc: Global) -> DiskRegister<FileDisk<'a, R>> {
-        DiskRegister::new(alloc, FileDisk::new(self.rt, self.path))
+    /// The system's reason for the last call that failed.
+    pub fn cause(&self) -> Option<ErrorKind>
+        ensures { result ≡ self.now.cause }
+    {
+        self.cause
     }
 
-    /// Counts a call that failed.
-    fn count<T>(&mut self, answer: &Result<T, RegisterFault>)
+    /// The register as the file has it when it is called first, and from then on for this one to change.
+    fn fresh(&self, alloc: Global) -> DiskRegister<FileDisk<'a, R, F>> {
+        DiskRegister::new(alloc, FileDisk::in_turn(self.rt, self.path))
+    }
+
+    /// Looks, and looks again where it finds damage: a record that another process completes meanwhile stands behind the end
+    /// that was found before.
+    fn look_again(
+        &self,
+        alloc: Global,
+        log: LogId,
+        e: u32,
+    ) -> (Result<View, RegisterFault>, Option<ErrorKind>)
+        ensures view { IfOk result.0 (IsView log e) }
+        ensures free { OnErr result.0 (IsFree result.0) }
+    {
+        for _ in 1..LOOKS {
+            let (answer, cause) = self.look_once(alloc, log, e);
+            match answer {
+                Err(RegisterFault::Damaged(_)) => {}
+                answer => return (answer, cause),
+            }
+        }
+        self.look_once(alloc, log, e)
+    }
+
+    /// Looks at the register as the file has it now.
+    fn look_once(
+        &self,
+        alloc: Global,
+        log: LogId,
+        e: u32,
+    ) -> (Result<View, RegisterFault>, Option<ErrorKind>)
+        ensures view { IfOk result.0 (IsView log e) }
+        ensures free { OnErr result.0 (IsFree result.0) }
+    {
+        let mut register = DiskRegister::new(alloc, FileDisk::shared(self.rt, self.path));
+        let answer = register.look(alloc, log, e);
+        (answer, register.into_disk().cause())
+    }
+
+    /// Counts a call that failed, and keeps its reason.
+    fn count<T>(&mut self, answer: &Result<T, RegisterFault>, cause: Option<ErrorKind>)
         ensures failed { IsErrOf answer.now RegisterFault.Failed → Rose self.old.faults self.new.faults }
         ensures steady { IsErrOf answer.now RegisterFault.Failed ⊎ (self.new.faults ≡ self.old.faults) }
         ensures counts { self.old.faults ≤ self.new.faults }
     {
         if let Err(RegisterFault::Failed) = answer {
             self.faults = self.faults.saturating_add(1);
+            self.cause = cause;
         }
     }
 }
 
-impl<'a, R: Files<File = File>> Register for FileRegister<'a, R> {
+impl<'a, R: Files<File = F>, F: SharedFile> Register for FileRegister<'a, R, F> {
     ghost told = { λ _. ⊥ };
 
     ghost holds = { λ _ _. ⊥ };
@@ -83,7 +134,7 @@ impl<'a, R: Files<File = File>> Register for FileRegister<'a, R> {
     fn activate(&mut self, alloc: Global, spec: &Spec) -> Result<Grant, RegisterFault> {
         let mut register = self.fresh(alloc);
         let answer = register.activate(alloc, spec);
-        self.count(&answer);
+        self.count(&answer, register.into_disk().cause());
         answer
     }
 
@@ -97,14 +148,17 @@ impl<'a, R: Files<File = File>> Register for FileRegister<'a, R> {
     ) -> Result<Option<Spec>, RegisterFault> {
         let mut register = self.fresh(alloc);
         let answer = register.close(alloc, log, epoch, summary, short);
-        self.count(&answer);
+        self.count(&answer, register.into_disk().cause());
         answer
     }
 
     fn draw(&mut self, alloc: Global, node: NodeId) -> Result<Drawn, RegisterFault> {
-        let mut register = self.fresh(alloc);
+        let Ok(disk) = FileDisk::made_in_turn(alloc, self.rt, self.path) else {
+            return Err(RegisterFault::NoMemory);
+        };
+        let mut register = DiskRegister::new(alloc, disk);
         let answer = register.draw(alloc, node);
-        self.count(&answer);
+        self.count(&answer, register.into_disk().cause());
         answer
     }
 
@@ -118,14 +172,13 @@ impl<'a, R: Files<File = File>> Register for FileRegister<'a, R> {
     ) -> Result<u32, RegisterFault> {
         let mut register = self.fresh(alloc);
         let answer = register.swap(alloc, log, upto, member, spare);
-        self.count(&answer);
+        self.count(&answer, register.into_disk().cause());
         answer
     }
 
     fn look(&mut self, alloc: Global, log: LogId, e: u32) -> Result<View, RegisterFault> {
-        let mut register = self.fresh(alloc);
-        let answer = register.look(alloc, log, e);
-        self.count(&answer);
+        let (answer, cause) = self.look_again(alloc, log, e);
+        self.count(&answer, cause);
         answer
     }
 }

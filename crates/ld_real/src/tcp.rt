@@ -1,11 +1,14 @@
 // A link over the sockets of this machine.
-ghost use Rattle.std.specs.Prelude.{◌≡◌, ◌<◌, ◌≤◌, ◌+◌, ◌^◌, length, true, false, None, Ok, IfOk, IfSome, OnErr, MatchOption, is_ok};
+ghost use Rattle.std.specs.Prelude.{◌≡◌, ◌<◌, ◌≤◌, ◌+◌, ◌^◌, [], length, true, false, None, Ok, IfOk, IfSome, OnErr, MatchOption, is_ok};
 ghost use Rattle.std.specs.Io.{ReadsAtMost, WritesAtMost};
 ghost use Rattle.ld_io.specs.Causes.{HasCause};
+ghost use Rattle.ld_link.specs.Calls.{after_next, after_read, after_write, after_dial};
 ghost use Rattle.ld_real.specs.Dialed.{is_dialed, is_broken};
 
+use crate::Tried;
 use ld_io::Failed;
 use ld_link::{Dial, Link};
+use ld_past::Past;
 use std::io;
 use std::io::{ErrorKind, Read, Write};
 use std::net::{Ipv4Addr, Net, SocketAddr, TcpListener, TcpStream};
@@ -42,7 +45,9 @@ pub struct TcpLink<'a, R: Net<Listener = TcpListener, Stream = TcpStream>> {
     port: u16,
     listener: Option<TcpListener>,
     present: Peer,
+    did: Past,
     faults: u64,
+    tried: Tried,
 }
 
 impl<'a, R: Net<Listener = TcpListener, Stream = TcpStream>> TcpLink<'a, R> {
@@ -50,6 +55,7 @@ impl<'a, R: Net<Listener = TcpListener, Stream = TcpStream>> TcpLink<'a, R> {
     pub fn new(rt: &'a R, port: u16) -> TcpLink<'a, R>
         ensures port { result.port ≡ port }
         ensures nobody { is_dialed result.present ≡ false }
+        ensures did { result.did.events ≡ [] }
         ensures faults { result.faults ≡ 0 }
     {
         TcpLink {
@@ -57,7 +63,9 @@ impl<'a, R: Net<Listener = TcpListener, Stream = TcpStream>> TcpLink<'a, R> {
             port,
             listener: None,
             present: Peer::Nobody,
+            did: Past::new(),
             faults: 0,
+            tried: Tried::new(),
         }
     }
 
@@ -65,6 +73,7 @@ impl<'a, R: Net<Listener = TcpListener, Stream = TcpStream>> TcpLink<'a, R> {
     /// the next call tries again.
     pub fn ready(&mut self) -> Result<(), Failed>
         ensures cause { HasCause self.old.faults self.new.faults result }
+        ensures did { self.new.did ≡ self.old.did }
     {
         let answer = self.bind();
         self.count(answer)
@@ -81,8 +90,22 @@ impl<'a, R: Net<Listener = TcpListener, Stream = TcpStream>> TcpLink<'a, R> {
         self.count(answer)
     }
 
+    /// The port that is bound, where one is.
+    pub fn bound(&self) -> Option<u16> {
+        match bound_port(&self.listener) {
+            Ok(port) => Some(port),
+            Err(_) => None,
+        }
+    }
+
+    /// What failed.
+    pub fn tried(&self) -> Tried {
+        self.tried
+    }
+
     fn bind(&mut self) -> io::Result<()>
         ensures faults { self.new.faults ≡ self.old.faults }
+        ensures did { self.new.did ≡ self.old.did }
     {
         if self.listener.is_none() {
             let address = (Ipv4Addr::LOCALHOST, self.port);
@@ -95,6 +118,7 @@ impl<'a, R: Net<Listener = TcpListener, Stream = TcpStream>> TcpLink<'a, R> {
     fn accept(&mut self) -> io::Result<()>
         ensures faults { self.new.faults ≡ self.old.faults }
         ensures came { is_dialed self.new.present ≡ false }
+        ensures did { self.new.did ≡ self.old.did }
     {
         self.present = Peer::Nobody;
         self.present = Peer::Came(accepted(&self.listener)?);
@@ -107,11 +131,13 @@ impl<'a, R: Net<Listener = TcpListener, Stream = TcpStream>> TcpLink<'a, R> {
         ensures value { IfOk result (λ v. answer ≡ Ok v) }
         ensures ok { is_ok result ≡ is_ok answer }
         ensures present { self.new.present ≡ self.old.present }
+        ensures did { self.new.did ≡ self.old.did }
     {
         match answer {
             Ok(value) => Ok(value),
-            Err(_) => {
+            Err(error) => {
                 self.faults = self.faults.saturating_add(1);
+                self.tried.fails(error.kind());
                 Err(Failed)
             }
         }
@@ -248,69 +274,79 @@ fn write_to(stream: &mut TcpStream, piece: &[u8]) -> Option<usize>
 impl<'a, R: Net<Listener = TcpListener, Stream = TcpStream>> Link for TcpLink<'a, R> {
     ghost peers = { λ _. None };
 
+    ghost did = { λ l. l.did.events };
+
     ghost faults = { λ l. l.faults };
 
     /// Binds the port where it isn't bound, closes the connection of the peer that was there, and waits for the next.
     /// It never answers false. A call that fails leaves no peer, once the port is bound.
     fn next_peer(&mut self) -> Result<bool, Failed>
         ensures cause { HasCause self.old.faults self.new.faults result }
+        ensures did { self.new.did.events ≡ after_next result self.old.did.events }
         ensures always { IfOk result (λ there. (there ≡ true) × (is_dialed self.new.present ≡ false)) }
     {
         self.ready()?;
         let answer = self.accept();
         self.count(answer)?;
+        self.did.note(&[0], &[]);
         Ok(true)
     }
 
     /// Never fails where the peer came: where the connection breaks, the peer has ended.
     fn read(&mut self, buf: &mut [u8]) -> Result<usize, Failed>
         ensures bound { ReadsAtMost result buf.new }
+        ensures did { self.new.did.events ≡ after_read result buf.new self.old.did.events }
         ensures cause { HasCause self.old.faults self.new.faults result }
         ensures no_fault { is_dialed self.old.present ≡ false → is_ok result ≡ true }
         ensures broken { OnErr result (is_broken self.new.present ≡ true) }
         ensures stays { is_broken self.old.present ≡ true → is_ok result ≡ false }
         ensures same { is_dialed self.new.present ≡ is_dialed self.old.present }
     {
-        match &mut self.present {
-            Peer::Nobody => Ok(0),
+        let count = match &mut self.present {
+            Peer::Nobody => 0,
             Peer::Came(stream) => match read_from(stream, buf) {
-                Some(count) => Ok(count),
+                Some(count) => count,
                 None => {
                     self.present = Peer::Nobody;
-                    Ok(0)
+                    0
                 }
             },
             Peer::Dialed(stream) => {
                 let answer = read_dialed(stream, buf);
-                self.count(answer)
+                self.count(answer)?
             }
-        }
+        };
+        self.did.note(&[2], &buf[..count]);
+        Ok(count)
     }
 
     /// Never fails where the peer came: where the connection breaks, what is written goes nowhere.
     fn write(&mut self, piece: &[u8]) -> Result<usize, Failed>
         ensures bound { WritesAtMost result piece.now }
         ensures some { IfOk result (λ n. 0 < length piece.now → 0 < n) }
+        ensures did { self.new.did.events ≡ after_write result piece.now self.old.did.events }
         ensures cause { HasCause self.old.faults self.new.faults result }
         ensures no_fault { is_dialed self.old.present ≡ false → is_ok result ≡ true }
         ensures broken { OnErr result (is_broken self.new.present ≡ true) }
         ensures stays { is_broken self.old.present ≡ true → is_ok result ≡ false }
         ensures same { is_dialed self.new.present ≡ is_dialed self.old.present }
     {
-        match &mut self.present {
-            Peer::Nobody => Ok(piece.len()),
+        let count = match &mut self.present {
+            Peer::Nobody => piece.len(),
             Peer::Came(stream) => match write_to(stream, piece) {
-                Some(count) => Ok(count),
+                Some(count) => count,
                 None => {
                     self.present = Peer::Nobody;
-                    Ok(piece.len())
+                    piece.len()
                 }
             },
             Peer::Dialed(stream) => {
                 let answer = write_dialed(stream, piece);
-                self.count(answer)
+                self.count(answer)?
             }
-        }
+        };
+        self.did.note(&[3], &piece[..count]);
+        Ok(count)
     }
 }
 
@@ -320,13 +356,16 @@ impl<'a, R: Net<Listener = TcpListener, Stream = TcpStream>> Dial for TcpLink<'a
     /// within 10 seconds, and then there is no peer: each read and write fails.
     fn dial(&mut self, node: u8) -> Result<(), Failed>
         ensures cause { HasCause self.old.faults self.new.faults result }
+        ensures did { self.new.did.events ≡ after_dial result node self.old.did.events }
         ensures dialed { is_dialed self.new.present ≡ true }
         ensures nobody { OnErr result (is_broken self.new.present ≡ true) }
     {
         self.present = Peer::Dialed(None);
+        self.tried.dials(node);
         let answer = connected(self.rt, self.port, node);
         let stream = self.count(answer)?;
         self.present = Peer::Dialed(Some(stream));
+        self.did.note(&[1, u64::from(node)], &[]);
         Ok(())
     }
 

@@ -215,6 +215,7 @@ module _ (c : Config) where
   calm_takes o s (events.Wipe n) h = refl
   calm_takes o s (events.Fail n k) h = refl
   calm_takes o s (events.Tear n k picture) h = refl
+  calm_takes o s events.Calm h = refl
   calm_takes o s (events.RegFail k done) h = refl
   calm_takes o s (events.Set l r x set) h = refl
 

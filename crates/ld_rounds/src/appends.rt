@@ -1,5 +1,5 @@
 // A sequencer is driven over payloads.
-ghost use Rattle.std.specs.Prelude.{◌≡◌, ◌≤◌, ◌⊎◌, ℕ, [], ◌∷◌, Bool, true, false, Option, None, IfOk, IfErr, IfSome, OnOk, OnErr, if◌then◌else◌};
+ghost use Rattle.std.specs.Prelude.{◌≡◌, ◌≤◌, ◌⊎◌, ℕ, [], ◌∷◌, Bool, true, false, Option, None, IfOk, IfErr, IfSome, OnOk, OnErr, if◌then◌else◌, Some};
 ghost use Rattle.ld_ids.specs.Set.{members};
 ghost use Rattle.ld_config.specs.declared.config.Config.{Config};
 ghost use Rattle.ld_config.specs.Bounds.{IsInBounds};
@@ -80,12 +80,12 @@ fn add<A: Appends, O: Sink>(
     out: &mut O,
 ) -> Result<bool, Ended>
     ensures held { (own : Own) (c : Config) (first : ℕ) (s : State) (far : Far) → IsInBounds c → Holds (A.stands sequencer.old) c first s far queues.old
-        → GoesOn (driver name.now own) ⊥ (λ t es. IsOne (Append name.now payload.now) t es × IfOk result (λ full. taken_of c t es ≡ (if full then [] else payload.now ∷ []))) (λ e. IsBegun (Append name.now payload.now)) (A.stands sequencer.new) (λ now. now ≡ far) c first s queues.new (O.written out.old) (O.written out.new) result }
+        → GoesOn (driver name.now own) ⊥ (λ t es. IsOne (Append name.now payload.now) t es × IfOk result (λ full. taken_of c t es ≡ (if full then [] else payload.now ∷ []))) (λ e. IsBegun (Append name.now payload.now)) (A.stands sequencer.new) (λ now. now ≡ far) c first s queues.new (Some (O.written out.old)) (Some (O.written out.new)) result }
     ensures itself { A.own sequencer.new ≡ A.own sequencer.old }
     ensures since { A.since sequencer.old sequencer.new }
-    ensures cause { IfErr result (IsEnding (O.faults out.old) (O.faults out.new) (O.written out.old) (O.written out.new)) }
+    ensures cause { IfErr result (IsEnding (O.faults out.old) (O.faults out.new) (Some (O.written out.old)) (Some (O.written out.new))) }
     ensures off { (off : Option FrameFault) → IfErr result (IsOffAs off) }
-    ensures later { IsLater (O.faults out.old) (O.faults out.new) (O.written out.old) (O.written out.new) }
+    ensures later { IsLater (O.faults out.old) (O.faults out.new) (Some (O.written out.old)) (Some (O.written out.new)) }
 {
     let Ok(appended) = sequencer.append(alloc, name, payload) else {
         return Err(Ended::NoMemory);
@@ -104,12 +104,12 @@ fn again<A: Appends, O: Sink>(
     out: &mut O,
 ) -> Result<(), Ended>
     ensures held { (own : Own) (c : Config) (first : ℕ) (s : State) (far : Far) → IsInBounds c → Holds (A.stands sequencer.old) c first s far queues.old
-        → GoesOn (driver name.now own) ⊥ (IsRetry name.now false) (λ e. MayRetry name.now false) (A.stands sequencer.new) (λ now. now ≡ far) c first s queues.new (O.written out.old) (O.written out.new) result }
+        → GoesOn (driver name.now own) ⊥ (IsRetry name.now false) (λ e. MayRetry name.now false) (A.stands sequencer.new) (λ now. now ≡ far) c first s queues.new (Some (O.written out.old)) (Some (O.written out.new)) result }
     ensures itself { A.own sequencer.new ≡ A.own sequencer.old }
     ensures since { A.since sequencer.old sequencer.new }
-    ensures cause { IfErr result (IsEnding (O.faults out.old) (O.faults out.new) (O.written out.old) (O.written out.new)) }
+    ensures cause { IfErr result (IsEnding (O.faults out.old) (O.faults out.new) (Some (O.written out.old)) (Some (O.written out.new))) }
     ensures off { (off : Option FrameFault) → IfErr result (IsOffAs off) }
-    ensures later { IsLater (O.faults out.old) (O.faults out.new) (O.written out.old) (O.written out.new) }
+    ensures later { IsLater (O.faults out.old) (O.faults out.new) (Some (O.written out.old)) (Some (O.written out.new)) }
 {
     let Ok(heard) = sequencer.retry(alloc, name) else {
         return Err(Ended::NoMemory);
@@ -173,16 +173,16 @@ fn add_all<A: Appends, P: Payloads, O: Sink>(
     out: &mut O,
 ) -> Result<(), Ended>
     ensures held { (own : Own) (c : Config) (first : ℕ) (s : State) (far : Far) → IsInBounds c → Holds (A.stands sequencer.old) c first s far queues.old
-        → GoesOn (driver name.now own) ⊥ (Adds name.now c (upcoming feed.old.held (P.coming input.old)) (upcoming feed.new.held (P.coming input.new))) (AddsUntil name.now c (upcoming feed.old.held (P.coming input.old))) (A.stands sequencer.new) (λ now. now ≡ far) c first s queues.new (O.written out.old) (O.written out.new) result }
+        → GoesOn (driver name.now own) ⊥ (Adds name.now c (upcoming feed.old.held (P.coming input.old)) (upcoming feed.new.held (P.coming input.new))) (AddsUntil name.now c (upcoming feed.old.held (P.coming input.old))) (A.stands sequencer.new) (λ now. now ≡ far) c first s queues.new (Some (O.written out.old)) (Some (O.written out.new)) result }
     ensures over { (origin : Option Input) → SameBehind origin (upcoming feed.old.held (P.coming input.old)) → WasOver origin feed.old.is_over (upcoming feed.old.held (P.coming input.old)) → WasOver origin feed.new.is_over (upcoming feed.new.held (P.coming input.new)) }
     ensures behind { OnOk result (SameBehind (upcoming feed.old.held (P.coming input.old)) (upcoming feed.new.held (P.coming input.new))) }
     ensures actor { A.own sequencer.new ≡ A.own sequencer.old }
     ensures since { A.since sequencer.old sequencer.new }
-    ensures cause { IfErr result (IsAppendEnding (upcoming feed.old.held (P.coming input.old)) (P.faults input.old) (P.faults input.new) (O.faults out.old) (O.faults out.new) (O.written out.old) (O.written out.new)) }
+    ensures cause { IfErr result (IsAppendEnding (upcoming feed.old.held (P.coming input.old)) (P.faults input.old) (P.faults input.new) (O.faults out.old) (O.faults out.new) (Some (O.written out.old)) (Some (O.written out.new))) }
     ensures off { (off : Option FrameFault) → IfErr result (IsOffAs off) }
     ensures input_later { P.faults input.old ≤ P.faults input.new }
     ensures itself { P.identity input.new ≡ P.identity input.old }
-    ensures later { IsLater (O.faults out.old) (O.faults out.new) (O.written out.old) (O.written out.new) }
+    ensures later { IsLater (O.faults out.old) (O.faults out.new) (Some (O.written out.old)) (Some (O.written out.new)) }
 {
     if feed.is_over {
         return Ok(());
@@ -211,16 +211,16 @@ fn prepare<A: Appends, P: Payloads, O: Sink>(
     out: &mut O,
 ) -> Result<(), Ended>
     ensures held { (own : Own) (c : Config) (first : ℕ) (s : State) (far : Far) → IsInBounds c → Holds (A.stands sequencer.old) c first s far queues.old
-        → GoesOn (driver name.now own) ⊥ (Prepares name.now c is_first (upcoming feed.old.held (P.coming input.old)) (upcoming feed.new.held (P.coming input.new))) (PreparesUntil name.now c is_first (upcoming feed.old.held (P.coming input.old))) (A.stands sequencer.new) (λ now. now ≡ far) c first s queues.new (O.written out.old) (O.written out.new) result }
+        → GoesOn (driver name.now own) ⊥ (Prepares name.now c is_first (upcoming feed.old.held (P.coming input.old)) (upcoming feed.new.held (P.coming input.new))) (PreparesUntil name.now c is_first (upcoming feed.old.held (P.coming input.old))) (A.stands sequencer.new) (λ now. now ≡ far) c first s queues.new (Some (O.written out.old)) (Some (O.written out.new)) result }
     ensures over { (origin : Option Input) → SameBehind origin (upcoming feed.old.held (P.coming input.old)) → WasOver origin feed.old.is_over (upcoming feed.old.held (P.coming input.old)) → WasOver origin feed.new.is_over (upcoming feed.new.held (P.coming input.new)) }
     ensures behind { OnOk result (SameBehind (upcoming feed.old.held (P.coming input.old)) (upcoming feed.new.held (P.coming input.new))) }
     ensures actor { A.own sequencer.new ≡ A.own sequencer.old }
     ensures since { A.since sequencer.old sequencer.new }
-    ensures cause { IfErr result (IsAppendEnding (upcoming feed.old.held (P.coming input.old)) (P.faults input.old) (P.faults input.new) (O.faults out.old) (O.faults out.new) (O.written out.old) (O.written out.new)) }
+    ensures cause { IfErr result (IsAppendEnding (upcoming feed.old.held (P.coming input.old)) (P.faults input.old) (P.faults input.new) (O.faults out.old) (O.faults out.new) (Some (O.written out.old)) (Some (O.written out.new))) }
     ensures off { (off : Option FrameFault) → IfErr result (IsOffAs off) }
     ensures input_later { P.faults input.old ≤ P.faults input.new }
     ensures itself { P.identity input.new ≡ P.identity input.old }
-    ensures later { IsLater (O.faults out.old) (O.faults out.new) (O.written out.old) (O.written out.new) }
+    ensures later { IsLater (O.faults out.old) (O.faults out.new) (Some (O.written out.old)) (Some (O.written out.new)) }
 {
     if is_first {
         return add_all(alloc, name, feed, input, sequencer, queues, out);
@@ -244,17 +244,17 @@ fn append_round<A: Appends, N: Nodes, P: Payloads, O: Sink>(
 ) -> Result<(), Ended>
     ensures held { (own : Own) → A.own sequencer.old ≡ own → (c : Config) (first : ℕ) (s : State) (far : Far) → IsInBounds c → AreOfConfig c (members set.now)
         → AllTaken (N.tells nodes.old c) far → Holds (A.stands sequencer.old) c first s far queues.old
-        → (N.silent nodes.new ≡ true) ⊎ GoesOn (driver name.now own) (IsBroken (N.faults nodes.old) (N.faults nodes.new) (N.endings nodes.old) (N.endings nodes.new)) (Rounds name.now c first (members set.now) is_first (upcoming feed.old.held (P.coming input.old)) (upcoming feed.new.held (P.coming input.new))) (RoundsUntil name.now c is_first (upcoming feed.old.held (P.coming input.old))) (A.stands sequencer.new) (AllTaken (N.tells nodes.new c)) c first s queues.new (O.written out.old) (O.written out.new) result }
+        → (N.silent nodes.new ≡ true) ⊎ GoesOn (driver name.now own) (IsBroken (N.faults nodes.old) (N.faults nodes.new) (N.endings nodes.old) (N.endings nodes.new)) (Rounds name.now c first (members set.now) is_first (upcoming feed.old.held (P.coming input.old)) (upcoming feed.new.held (P.coming input.new))) (RoundsUntil name.now c is_first (upcoming feed.old.held (P.coming input.old))) (A.stands sequencer.new) (AllTaken (N.tells nodes.new c)) c first s queues.new (Some (O.written out.old)) (Some (O.written out.new)) result }
     ensures silent { N.silent nodes.old ≡ true → N.silent nodes.new ≡ true }
     ensures over { (origin : Option Input) → SameBehind origin (upcoming feed.old.held (P.coming input.old)) → WasOver origin feed.old.is_over (upcoming feed.old.held (P.coming input.old)) → WasOver origin feed.new.is_over (upcoming feed.new.held (P.coming input.new)) }
     ensures behind { OnOk result (SameBehind (upcoming feed.old.held (P.coming input.old)) (upcoming feed.new.held (P.coming input.new))) }
     ensures actor { A.own sequencer.new ≡ A.own sequencer.old }
     ensures since { A.since sequencer.old sequencer.new }
-    ensures cause { IfErr result (IsAppendEnding (upcoming feed.old.held (P.coming input.old)) (P.faults input.old) (P.faults input.new) (O.faults out.old) (O.faults out.new) (O.written out.old) (O.written out.new)) }
+    ensures cause { IfErr result (IsAppendEnding (upcoming feed.old.held (P.coming input.old)) (P.faults input.old) (P.faults input.new) (O.faults out.old) (O.faults out.new) (Some (O.written out.old)) (Some (O.written out.new))) }
     ensures off { IfErr result (IsOffAs (N.off nodes.new)) }
     ensures input_later { P.faults input.old ≤ P.faults input.new }
     ensures itself { P.identity input.new ≡ P.identity input.old }
-    ensures later { IsLater (O.faults out.old) (O.faults out.new) (O.written out.old) (O.written out.new) }
+    ensures later { IsLater (O.faults out.old) (O.faults out.new) (Some (O.written out.old)) (Some (O.written out.new)) }
     ensures counts { AreLater (N.faults nodes.old) (N.faults nodes.new) (N.endings nodes.old) (N.endings nodes.new) }
 {
     prepare(alloc, name, is_first, feed, input, sequencer, queues, out)?;
@@ -288,12 +288,12 @@ pub fn append<A: Appends, N: Nodes, P: Payloads, O: Sink>(
     // where the sequencer doesn't take it; it never ends with `BadFrame`.
     ensures held { (c : Config) (first : ℕ) (s : State) (far : Far) → IsInBounds c → AreOfConfig c (members set.now)
         → AllTaken (N.tells nodes.old c) far → Holds (A.stands sequencer.old) c first s far queues.old
-        → (N.silent nodes.new ≡ true) ⊎ TookAppends (driver name.now (A.own sequencer.old)) (IsBroken (N.faults nodes.old) (N.faults nodes.new) (N.endings nodes.old) (N.endings nodes.new)) (members set.now) (P.coming input.old) rounds (A.stands sequencer.new) (AllTaken (N.tells nodes.new c)) c first s queues.new (O.written out.old) (O.written out.new) result }
+        → (N.silent nodes.new ≡ true) ⊎ TookAppends (driver name.now (A.own sequencer.old)) (IsBroken (N.faults nodes.old) (N.faults nodes.new) (N.endings nodes.old) (N.endings nodes.new)) (members set.now) (P.coming input.old) rounds (A.stands sequencer.new) (AllTaken (N.tells nodes.new c)) c first s queues.new (Some (O.written out.old)) (Some (O.written out.new)) result }
     ensures settled { IfOk result (λ done. done ≡ true → (A.settled sequencer.new ≡ true) × (are_empty queues.new ≡ true)) }
     ensures itself { P.identity input.new ≡ P.identity input.old }
     ensures actor { A.own sequencer.new ≡ A.own sequencer.old }
     ensures since { A.since sequencer.old sequencer.new }
-    ensures cause { IfErr result (IsAppendEnding (P.coming input.old) (P.faults input.old) (P.faults input.new) (O.faults out.old) (O.faults out.new) (O.written out.old) (O.written out.new)) }
+    ensures cause { IfErr result (IsAppendEnding (P.coming input.old) (P.faults input.old) (P.faults input.new) (O.faults out.old) (O.faults out.new) (Some (O.written out.old)) (Some (O.written out.new))) }
     ensures off { IfErr result (IsOffAs (N.off nodes.new)) }
 {
     let mut feed = Feed::new();

@@ -1,5 +1,5 @@
 // Bytes to a sink, and the lines of a transcript.
-ghost use Rattle.std.specs.Prelude.{◌≡◌, ◌≤◌, IfOk, IfErr, MatchResult};
+ghost use Rattle.std.specs.Prelude.{◌≡◌, ◌≤◌, IfOk, IfErr, MatchResult, Some};
 ghost use Rattle.std.specs.Io.KnownBytes.{Appends};
 ghost use Rattle.ld_io.specs.Causes.{HasCause};
 ghost use Rattle.ld_transcript.specs.Text.{text};
@@ -13,7 +13,7 @@ use std::alloc::Global;
 
 /// Writes all the bytes.
 pub fn write_all<O: Sink>(out: &mut O, bytes: &[u8]) -> Result<(), Failed>
-    ensures written { MatchResult result (λ _. Appends (O.written out.old) (O.written out.new) bytes.now) (λ _. AppendsPart (O.written out.old) (O.written out.new) bytes.now) }
+    ensures written { MatchResult result (λ _. Appends (Some (O.written out.old)) (Some (O.written out.new)) bytes.now) (λ _. AppendsPart (Some (O.written out.old)) (Some (O.written out.new)) bytes.now) }
     ensures cause { HasCause (O.faults out.old) (O.faults out.new) result }
 {
     let mut done = 0;
@@ -40,7 +40,7 @@ fn text_of(alloc: Global, lines: &[Line]) -> Result<Vec<u8>, NoMemory>
 /// Writes the text of lines. All memory is taken before the first byte is written. It ends with `Write` where a write
 /// failed, when a part may be written from the front, and with `NoMemory`, when none is.
 pub fn write_lines<O: Sink>(alloc: Global, lines: &[Line], out: &mut O) -> Result<(), Ended>
-    ensures written { MatchResult result (λ _. Appends (O.written out.old) (O.written out.new) (text lines.now)) (λ _. AppendsPart (O.written out.old) (O.written out.new) (text lines.now)) }
+    ensures written { MatchResult result (λ _. Appends (Some (O.written out.old)) (Some (O.written out.new)) (text lines.now)) (λ _. AppendsPart (Some (O.written out.old)) (Some (O.written out.new)) (text lines.now)) }
     ensures cause { IfErr result (WritesFault (O.faults out.old) (O.faults out.new)) }
     ensures later { O.faults out.old ≤ O.faults out.new }
 {

@@ -1,5 +1,5 @@
 // A reader is driven until it is finished.
-ghost use Rattle.std.specs.Prelude.{◌≡◌, ◌⊎◌, ℕ, List, [], Option, Bool, true, IfOk, IfErr, IfSome};
+ghost use Rattle.std.specs.Prelude.{◌≡◌, ◌⊎◌, ℕ, List, [], Option, Bool, true, IfOk, IfErr, IfSome, Some};
 ghost use Rattle.ld_ids.specs.Set.{members};
 ghost use Rattle.ld_config.specs.declared.config.Config.{Config};
 ghost use Rattle.ld_config.specs.Bounds.{IsInBounds};
@@ -52,12 +52,12 @@ fn ask<R: Reads, O: Sink>(
     out: &mut O,
 ) -> Result<(), Ended>
     ensures held { (own : Own) (c : Config) (first : ℕ) (s : State) (far : Far) → IsInBounds c → Holds (R.stands reader.old) c first s far queues.old
-        → GoesOn (driver name.now own) ⊥ (IsOne (Poll name.now)) (λ e. IsBegun (Poll name.now)) (R.stands reader.new) (λ now. now ≡ far) c first s queues.new (O.written out.old) (O.written out.new) result }
+        → GoesOn (driver name.now own) ⊥ (IsOne (Poll name.now)) (λ e. IsBegun (Poll name.now)) (R.stands reader.new) (λ now. now ≡ far) c first s queues.new (Some (O.written out.old)) (Some (O.written out.new)) result }
     ensures itself { R.own reader.new ≡ R.own reader.old }
     ensures since { R.since reader.old reader.new }
-    ensures cause { IfErr result (IsEnding (O.faults out.old) (O.faults out.new) (O.written out.old) (O.written out.new)) }
+    ensures cause { IfErr result (IsEnding (O.faults out.old) (O.faults out.new) (Some (O.written out.old)) (Some (O.written out.new))) }
     ensures off { (off : Option FrameFault) → IfErr result (IsOffAs off) }
-    ensures later { IsLater (O.faults out.old) (O.faults out.new) (O.written out.old) (O.written out.new) }
+    ensures later { IsLater (O.faults out.old) (O.faults out.new) (Some (O.written out.old)) (Some (O.written out.new)) }
 {
     let Ok(heard) = reader.poll(alloc, name) else {
         return Err(Ended::NoMemory);
@@ -77,12 +77,12 @@ fn begin<R: Reads, O: Sink>(
     out: &mut O,
 ) -> Result<(), Ended>
     ensures held { (own : Own) (c : Config) (first : ℕ) (s : State) (far : Far) → IsInBounds c → AreOfConfig c (members set.now) → Holds (R.stands reader.old) c first s far queues.old
-        → GoesOn (driver name.now own) ⊥ (IsPolled is_sparing name.now first (members set.now)) (λ e t es. (es ≡ []) ⊎ IsPolled is_sparing name.now first (members set.now) t es) (R.stands reader.new) (λ now. now ≡ far) c first s queues.new (O.written out.old) (O.written out.new) result }
+        → GoesOn (driver name.now own) ⊥ (IsPolled is_sparing name.now first (members set.now)) (λ e t es. (es ≡ []) ⊎ IsPolled is_sparing name.now first (members set.now) t es) (R.stands reader.new) (λ now. now ≡ far) c first s queues.new (Some (O.written out.old)) (Some (O.written out.new)) result }
     ensures itself { R.own reader.new ≡ R.own reader.old }
     ensures since { R.since reader.old reader.new }
-    ensures cause { IfErr result (IsEnding (O.faults out.old) (O.faults out.new) (O.written out.old) (O.written out.new)) }
+    ensures cause { IfErr result (IsEnding (O.faults out.old) (O.faults out.new) (Some (O.written out.old)) (Some (O.written out.new))) }
     ensures off { (off : Option FrameFault) → IfErr result (IsOffAs off) }
-    ensures later { IsLater (O.faults out.old) (O.faults out.new) (O.written out.old) (O.written out.new) }
+    ensures later { IsLater (O.faults out.old) (O.faults out.new) (Some (O.written out.old)) (Some (O.written out.new)) }
 {
     if is_sparing && queues.any(set) {
         return Ok(());
@@ -103,13 +103,13 @@ fn read_round<R: Reads, N: Nodes, O: Sink>(
 ) -> Result<(), Ended>
     ensures held { (own : Own) → R.own reader.old ≡ own → (c : Config) (first : ℕ) (s : State) (far : Far) → IsInBounds c → AreOfConfig c (members set.now)
         → AllTaken (N.tells nodes.old c) far → Holds (R.stands reader.old) c first s far queues.old
-        → (N.silent nodes.new ≡ true) ⊎ GoesOn (driver name.now own) (IsBroken (N.faults nodes.old) (N.faults nodes.new) (N.endings nodes.old) (N.endings nodes.new)) (IsReadRound is_sparing name.now c first (members set.now)) (λ e. IsReadPart is_sparing name.now c first (members set.now)) (R.stands reader.new) (AllTaken (N.tells nodes.new c)) c first s queues.new (O.written out.old) (O.written out.new) result }
+        → (N.silent nodes.new ≡ true) ⊎ GoesOn (driver name.now own) (IsBroken (N.faults nodes.old) (N.faults nodes.new) (N.endings nodes.old) (N.endings nodes.new)) (IsReadRound is_sparing name.now c first (members set.now)) (λ e. IsReadPart is_sparing name.now c first (members set.now)) (R.stands reader.new) (AllTaken (N.tells nodes.new c)) c first s queues.new (Some (O.written out.old)) (Some (O.written out.new)) result }
     ensures silent { N.silent nodes.old ≡ true → N.silent nodes.new ≡ true }
     ensures itself { R.own reader.new ≡ R.own reader.old }
     ensures since { R.since reader.old reader.new }
-    ensures cause { IfErr result (IsEnding (O.faults out.old) (O.faults out.new) (O.written out.old) (O.written out.new)) }
+    ensures cause { IfErr result (IsEnding (O.faults out.old) (O.faults out.new) (Some (O.written out.old)) (Some (O.written out.new))) }
     ensures off { IfErr result (IsOffAs (N.off nodes.new)) }
-    ensures later { IsLater (O.faults out.old) (O.faults out.new) (O.written out.old) (O.written out.new) }
+    ensures later { IsLater (O.faults out.old) (O.faults out.new) (Some (O.written out.old)) (Some (O.written out.new)) }
     ensures counts { AreLater (N.faults nodes.old) (N.faults nodes.new) (N.endings nodes.old) (N.endings nodes.new) }
 {
     begin(alloc, set, name, is_sparing, reader, queues, out)?;
@@ -140,13 +140,13 @@ pub fn read<R: Reads, N: Nodes, O: Sink>(
     // which it tells the reader to wait, where the reader tells nodes of a log's closed epochs; it never ends with `BadFrame`.
     ensures held { (c : Config) (first : ℕ) (s : State) (far : Far) → IsInBounds c → AreOfConfig c (members set.now)
         → AllTaken (N.tells nodes.old c) far → Holds (R.stands reader.old) c first s far queues.old
-        → (N.silent nodes.new ≡ true) ⊎ TookReads is_sparing (driver name.now (R.own reader.old)) (IsBroken (N.faults nodes.old) (N.faults nodes.new) (N.endings nodes.old) (N.endings nodes.new)) (members set.now) rounds (R.stands reader.new) (AllTaken (N.tells nodes.new c)) c first s queues.new (O.written out.old) (O.written out.new) result }
+        → (N.silent nodes.new ≡ true) ⊎ TookReads is_sparing (driver name.now (R.own reader.old)) (IsBroken (N.faults nodes.old) (N.faults nodes.new) (N.endings nodes.old) (N.endings nodes.new)) (members set.now) rounds (R.stands reader.new) (AllTaken (N.tells nodes.new c)) c first s queues.new (Some (O.written out.old)) (Some (O.written out.new)) result }
     ensures finished { IfOk result (λ done. done ≡ true → R.finished reader.new name.now ≡ true) }
     ensures itself { R.own reader.new ≡ R.own reader.old }
     ensures since { R.since reader.old reader.new }
-    ensures cause { IfErr result (IsEnding (O.faults out.old) (O.faults out.new) (O.written out.old) (O.written out.new)) }
+    ensures cause { IfErr result (IsEnding (O.faults out.old) (O.faults out.new) (Some (O.written out.old)) (Some (O.written out.new))) }
     ensures off { IfErr result (IsOffAs (N.off nodes.new)) }
-    ensures later { IsLater (O.faults out.old) (O.faults out.new) (O.written out.old) (O.written out.new) }
+    ensures later { IsLater (O.faults out.old) (O.faults out.new) (Some (O.written out.old)) (Some (O.written out.new)) }
 {
     'rounds: for _ in 0..rounds {
         read_round(alloc, set, name, is_sparing, reader, nodes, queues, out)?;

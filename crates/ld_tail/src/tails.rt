@@ -51,10 +51,10 @@ fn drive<G: Register, N: Nodes, O: Sink>(
     requires none { reading.old.readers ≡ [] }
     requires on { reading.old.end ≡ None }
     ensures drove { (s : State) (far : Far) → N.tells nodes.old config.now far → Begins (HasNone (G.tells reading.old.register)) config.now s far
-        → (N.silent nodes.new ≡ true) ⊎ DroveTail (record { name = name.now; log = reading.old.log; from = from; until = until; style = style }) (IsBroken (N.faults nodes.old) (N.faults nodes.new) (N.endings nodes.old) (N.endings nodes.new)) rounds (N.tells nodes.new) (G.tells reading.new.register) config.now s (O.written out.old) (O.written out.new) result }
+        → (N.silent nodes.new ≡ true) ⊎ DroveTail (record { name = name.now; log = reading.old.log; from = from; until = until; style = style }) (IsBroken (N.faults nodes.old) (N.faults nodes.new) (N.endings nodes.old) (N.endings nodes.new)) rounds (N.tells nodes.new) (G.tells reading.new.register) config.now s (Some (O.written out.old)) (Some (O.written out.new)) result }
     ensures looked { HasLooked None reading.new.end (G.told reading.old.register) (G.told reading.new.register) (G.holds reading.old.register) (G.holds reading.new.register) (G.may_hold reading.old.register) (G.may_hold reading.new.register) (G.faults reading.old.register) (G.faults reading.new.register) (G.identity reading.old.register) (G.identity reading.new.register) }
     ensures damaged { (place : ℕ) → reading.new.end ≡ Some (Ended.Register (Refusal.Damaged place)) → G.told reading.old.register → G.damaged reading.old.register place }
-    ensures cause { IfErr result (IsEnding (O.faults out.old) (O.faults out.new) (O.written out.old) (O.written out.new)) }
+    ensures cause { IfErr result (IsEnding (O.faults out.old) (O.faults out.new) (Some (O.written out.old)) (Some (O.written out.new))) }
     ensures off { IfErr result (IsOffAs (N.off nodes.new)) }
 {
     let Ok(_) = reading.look(alloc, from.epoch()) else {
@@ -129,7 +129,7 @@ pub fn tail<G: Register, N: Nodes, O: Sink>(
     // a node had ended, and an answer only where the reader doesn't take it. A node may be ticked for the log in its visit,
     // right behind an answer by which it tells the reader to wait. It never ends with `BadFrame`.
     ensures tailed { (s : State) (far : Far) → N.tells nodes.old config.now far → Begins (HasNone (G.tells register)) config.now s far
-        → (N.silent nodes.new ≡ true) ⊎ IsTailed (record { name = name; log = log; from = from; until = until; style = style }) (IsBroken (N.faults nodes.old) (N.faults nodes.new) (N.endings nodes.old) (N.endings nodes.new)) rounds (N.tells nodes.new) (G.tells result.1) config.now s (O.written out.old) (O.written out.new) result.0 }
+        → (N.silent nodes.new ≡ true) ⊎ IsTailed (record { name = name; log = log; from = from; until = until; style = style }) (IsBroken (N.faults nodes.old) (N.faults nodes.new) (N.endings nodes.old) (N.endings nodes.new)) rounds (N.tells nodes.new) (G.tells result.1) config.now s (Some (O.written out.old)) (Some (O.written out.new)) result.0 }
     ensures cause { IsTailEnd (λ place. G.told register → G.damaged register place) (G.faults register) (G.faults result.1) (O.faults out.old) (O.faults out.new) result.0 }
     // It ends with `BadFrame` only by the fault that the nodes tell.
     ensures off { IsOffAs (N.off nodes.new) result.0 }

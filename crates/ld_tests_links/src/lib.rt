@@ -6,6 +6,8 @@ mod dial;
 #[cfg(test)]
 mod driver;
 #[cfg(test)]
+mod files;
+#[cfg(test)]
 mod link;
 #[cfg(test)]
 mod real;

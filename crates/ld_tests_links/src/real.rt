@@ -13,7 +13,9 @@ use std::test::Fail;
 
 /// Whether a new file has one byte, and two more are written behind a gap and synced.
 fn writes(rt: &HostRuntime, path: &str) -> [bool; 3] {
-    let mut disk = FileDisk::new(rt, path);
+    let Ok(mut disk) = FileDisk::new(rt.alloc(), rt, path) else {
+        return [false; 3];
+    };
     [
         disk.len() == Ok(1),
         disk.write_at(3, &[7, 8]) == Ok(()),
@@ -23,8 +25,10 @@ fn writes(rt: &HostRuntime, path: &str) -> [bool; 3] {
 
 /// Whether five bytes of the file are read, and what stands in the buffer then.
 fn reads(rt: &HostRuntime, path: &str) -> (bool, [u8; 6]) {
-    let mut disk = FileDisk::new(rt, path);
     let mut buf = [9; 6];
+    let Ok(mut disk) = FileDisk::new(rt.alloc(), rt, path) else {
+        return (false, buf);
+    };
     let done = disk.read(0, &mut buf) == Ok(5);
     (done, buf)
 }

@@ -1,5 +1,7 @@
 -- Commands of clap, built argument by argument.
-use Rattle.std.proofs.Common.{◌≡◌, ◌∙◌, ◌||◌, ◌++◌, [], ◌∷◌, false, ap, ap₂}
+use Rattle.std.specs.Prelude.{Result, Ok, IfOk}
+use Rattle.std.proofs.lemmas.Result.{IfOk-weaker}
+use Rattle.std.proofs.Common.{subst, ◌≡◌, ◌∙◌, ◌||◌, ◌++◌, [], ◌∷◌, false, ap, ap₂}
 use Rattle.clap.specs.Simple.{App, Shape, app_of, with_rule, with_subcommand}
 use Rattle.clap.specs.Walk.{Rule, rule_of}
 use Rattle.clap.specs.Built.{AddsArg, AddsSubcommand}
@@ -17,3 +19,9 @@ with_argument old a new shape rule adds is ruled own =
 pub with_command : (old sub new : Command) (app : App) (shape : Shape) → AddsSubcommand old sub new → app_of old ≡ app → IsCommand shape sub
     → app_of new ≡ with_subcommand app shape
 with_command old sub new app shape adds is command = adds.shape command.own ∙ ap₂ with_subcommand is (ap (λ (a : App). a.top) command.app)
+
+-- the same, where both could be made
+pub added : {E : Type 0} (ld more : Result Command E) (l m : Command) (new : Result Command E) (app : App) (shape : Shape) → ld ≡ Ok l → more ≡ Ok m
+    → IfOk new (AddsSubcommand l m) → IfOk ld (λ l. app_of l ≡ app) → IfOk more (IsCommand shape) → IfOk new (λ l. app_of l ≡ with_subcommand app shape)
+added ld more l m new app shape is_l is_m adds has are =
+    IfOk-weaker new _ _ (λ r h. with_command l m r app shape h (subst (λ x. IfOk x (λ l. app_of l ≡ app)) is_l has) (subst (λ x. IfOk x (IsCommand shape)) is_m are)) adds

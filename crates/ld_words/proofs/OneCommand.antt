@@ -16,7 +16,7 @@ use Rattle.ld_words.specs.declared.command.TailWords.{TailWords}
 use Rattle.ld_words.specs.declared.command.Places.{Places}
 use Rattle.ld_words.specs.declared.command.Command.{Command}
 use Rattle.ld_words.specs.declared.command.Command.TheVariants.{Replay, Exercise, Node, Append, Tail}
-use Rattle.ld_words.specs.Meaning.{Is, IsNumber, IsLsn, IsConfig, Says, IsMember, IsLogOf, IsNodeWords, IsLogWords, IsAppendWords, IsRange, IsTailWords, IsNamed, Asks, ArePlacesOf, HasNoPlaces, AskForPlaces, AskForNoPlaces}
+use Rattle.ld_words.specs.Meaning.{Is, IsNumber, IsLsn, IsConfig, Says, IsMember, IsLogOf, AreFiles, IsNodeWords, IsLogWords, IsAppendWords, IsRange, IsTailWords, IsNamed, Asks, ArePlacesOf, HasNoPlaces, AskForPlaces, AskForNoPlaces}
 
 -- an argument has one value
 one_text : (name : Text) (rows : List Row) (a b : Text) → Is name rows a → Is name rows b → a ≡ b
@@ -67,14 +67,19 @@ one_node rows a b x y =
     congruent node_of a.id b.id a.config b.config a.store b.store a.register b.register a.port b.port a.turns b.turns a.format b.format
     (one_number _ rows 1 16 a.id b.id (omega arith) x.id y.id)
     (one_config _ rows a.config b.config x.config y.config)
-    (one_text _ rows a.store b.store x.store y.store)
-    (one_text _ rows a.register b.register x.register y.register)
+    (one_text _ rows a.store b.store x.files.first y.files.first)
+    (one_text _ rows a.register b.register x.files.second y.files.second)
     (one_number _ rows 0 65535 a.port b.port (omega arith) x.port y.port)
     (one_number _ rows 1 1000000000 a.turns b.turns (omega arith) x.turns y.turns)
     (x.format ∙ sym y.format)
 
 one_lsn : (name : Text) (rows : List Row) (v w : ℕ) → IsLsn name rows v → IsLsn name rows w → v ≡ w
 one_lsn name rows v w x y = one_number_text v w x.bits y.bits (one_text name rows (lsn_text v) (lsn_text w) x.text y.text)
+
+-- one text that is both files is of no files
+pub no_files : (rows : List Row) (a b store register : Text) → Is (codes "store") rows a → Is (codes "register") rows b → a ≡ b → AreFiles rows store register → ⊥
+no_files rows a b store register first second same files =
+    files.apart (one_text _ rows store a files.first first ∙ same ∙ one_text _ rows b register second files.second)
 
 -- the arguments' number and configuration are those of each log that they say
 log_in : (rows : List Row) (log : ℕ) (text : Text) (config : Config) (w : LogWords) → IsNumber (codes "log") rows 1 65535 log

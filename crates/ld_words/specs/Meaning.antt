@@ -1,5 +1,5 @@
 -- What the words ask for.
-use Rattle.std.specs.Prelude.{◌≡◌, ◌≤◌, ◌<◌, ◌^◌, ◌-◌, ◌==◌, ℕ, List, codes, decimal, Bool, true, false, Option, None, Some, Ok}
+use Rattle.std.specs.Prelude.{◌≡◌, ◌≢◌, ◌≤◌, ◌<◌, ◌^◌, ◌-◌, ◌==◌, ℕ, List, codes, decimal, Bool, true, false, Option, None, Some, Ok}
 use Rattle.std.specs.Str.{IsUtf8, bytes_eq}
 use Rattle.clap.specs.Walk.{Row, Text, first_of}
 use Rattle.serde_json.specs.Read.{read}
@@ -82,12 +82,17 @@ pub record IsExercise (rows : List Row) (start count : ℕ) : Type 0 where
   pub seed : IsNumber (codes "seed") rows 0 (2 ^ 64 - 1) start
   pub events : IsNumber (codes "events") rows 0 100000 count
 
+-- the store's and the register's file, which don't have one name
+pub record AreFiles (rows : List Row) (store register : Text) : Type 0 where
+  pub first : Is (codes "store") rows store
+  pub second : Is (codes "register") rows register
+  pub apart : store ≢ register
+
 pub record IsNodeWords (rows : List Row) (n : NodeWords) : Type 0 where
   pub id : IsNumber (codes "id") rows 1 16 n.id
   pub config : IsConfig (codes "config") rows n.config
   pub member : IsMember n.id n.config
-  pub store : Is (codes "store") rows n.store
-  pub register : Is (codes "register") rows n.register
+  pub files : AreFiles rows n.store n.register
   pub port : IsNumber (codes "port") rows 0 65535 n.port
   pub turns : IsNumber (codes "turns") rows 1 1000000000 n.turns
   pub format : n.format ≡ is_true (first_of (codes "format") rows)

@@ -30,7 +30,7 @@ pub struct NodeWords {
     pub config: Config,
     /// The file of the node's store.
     pub store: FileName,
-    /// The file of the register of epochs.
+    /// The file of the register of epochs, which has another name.
     pub register: FileName,
     /// The port that the node listens on.
     pub port: u16,

@@ -1,6 +1,7 @@
 // The commands and their arguments, as clap has them.
 ghost use Rattle.std.specs.Prelude.{◌≡◌, IfOk, MatchResult, false, map, string_bytes};
 ghost use Rattle.clap.specs.Words.{app_of, rule_of, subcommand_rows_of};
+ghost use Rattle.clap.specs.Simple.{App, Shape, with_subcommand};
 ghost use Rattle.ld_words.specs.Grammar.{option_rule, flag_rule, exercise_shape, files_shape, node_shape, log_shape, append_shape, tail_shape, ld_app, found, IsCommand};
 ghost use Rattle.ld_words.specs.Meaning.{IsNoCommand};
 ghost use Rattle.ld_words.specs.Refuses.{Refuses};
@@ -86,25 +87,43 @@ fn tail_command<'a>(alloc: Global) -> Result<Command<'a>, AllocError>
         .arg(flag(alloc, "messages"))
 }
 
+/// The commands with one more, where both could be made.
+#[tactic(auto, using(crate::proofs::Commands::added))]
+fn add<'a>(
+    ld: Result<Command<'a>, AllocError>,
+    more: Result<Command<'a>, AllocError>,
+) -> Result<Command<'a>, AllocError>
+    ensures { (app : App) (shape : Shape) → IfOk ld.entry (λ l. app_of l ≡ app) → IfOk more.entry (IsCommand shape) → IfOk result (λ l. app_of l ≡ with_subcommand app shape) }
+{
+    match ld {
+        Ok(ld) => match more {
+            Ok(more) => ld.subcommand(more),
+            Err(error) => {
+                drop(ld);
+                Err(error)
+            }
+        },
+        Err(error) => {
+            drop(more);
+            Err(error)
+        }
+    }
+}
+
 /// The commands, with no help and no version.
 fn ld_command<'a>(alloc: Global) -> Result<Command<'a>, AllocError>
     ensures { IfOk result (λ command. app_of command ≡ ld_app) }
 {
-    let exercise = exercise_command(alloc)?;
-    let node = node_command(alloc)?;
-    let append = append_command(alloc)?;
-    let tail = tail_command(alloc)?;
-    let replay = Command::new(alloc, "replay");
     let ld = Command::new(alloc, "ld")
         .no_binary_name(true)
         .disable_help_flag(true)
         .disable_help_subcommand(true)
         .subcommand_required(true);
-    ld.subcommand(replay)?
-        .subcommand(exercise)?
-        .subcommand(node)?
-        .subcommand(append)?
-        .subcommand(tail)
+    let with_replay = add(Ok(ld), Ok(Command::new(alloc, "replay")));
+    let with_exercise = add(with_replay, exercise_command(alloc));
+    let with_node = add(with_exercise, node_command(alloc));
+    let with_append = add(with_node, append_command(alloc));
+    add(with_append, tail_command(alloc))
 }
 
 /// What clap finds in the words.

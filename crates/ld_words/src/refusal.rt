@@ -33,6 +33,8 @@ pub enum Refusal {
     Stranger(NodeId),
     /// The log is none of the configuration's.
     StrangeLog(LogId),
+    /// The store and the register are the same file.
+    OneFile,
     /// The first number that is to be read is 0, or above the last.
     Order,
     /// One copy of each record is asked for, and messages too.
@@ -71,6 +73,7 @@ impl Refusal {
                 "--log is {}, which isn't one of the configuration's logs",
                 log.number()
             ),
+            Refusal::OneFile => String::from_str(alloc, "--store and --register are the same file"),
             Refusal::Order => String::from_str(alloc, "--from is e0n0 or above --until"),
             Refusal::Styles => String::from_str(
                 alloc,

@@ -1,5 +1,6 @@
 // The command that the words ask for.
 ghost use Rattle.std.specs.Prelude.{◌≡◌, ℕ, None, Some, IfOk, MatchOption, MatchResult, IfSome, codes, map, string_bytes};
+ghost use Rattle.clap.specs.Walk.{Text};
 ghost use Rattle.clap.specs.Words.{rows_of, found_of, first_of, subcommand_rows_of};
 ghost use Rattle.ld_config.specs.Bounds.{IsInBounds};
 ghost use Rattle.ld_words.specs.declared.command.NodeWords.{NodeWords as Node};
@@ -7,19 +8,33 @@ ghost use Rattle.ld_words.specs.declared.command.LogWords.{LogWords as Log};
 ghost use Rattle.ld_words.specs.declared.command.AppendWords.{AppendWords as Appending};
 ghost use Rattle.ld_words.specs.declared.command.TailWords.{TailWords as Tail};
 ghost use Rattle.ld_words.specs.declared.command.Command.{Command as Choice};
-ghost use Rattle.ld_words.specs.Meaning.{IsExercise, IsNodeWords, IsLogWords, IsAppendWords, IsRange, IsTailWords, is_true, style_of, IsNamed, IsFound, Asks, IsNoCommand, ArePlacesOf, ArePlacesOfLog, HasNoPlaces, AskForPlaces, AskForNoPlaces};
+ghost use Rattle.ld_words.specs.Meaning.{IsExercise, AreFiles, IsNodeWords, IsLogWords, IsAppendWords, IsRange, IsTailWords, is_true, style_of, IsNamed, IsFound, Asks, IsNoCommand, ArePlacesOf, ArePlacesOfLog, HasNoPlaces, AskForPlaces, AskForNoPlaces};
 ghost use Rattle.ld_words.specs.Refuses.{Refuses};
 ghost use Rattle.ld_words.specs.Bounds.{IsLogInBounds, IsTailInBounds, HasBounds};
 
 use crate::arguments::{config, file_name, flag, log_of, lsn, member, number, text};
 use crate::grammar::matches;
 use crate::refusal::Refusal;
-use crate::{AppendWords, Command, LogWords, NodeWords, Places, TailWords};
+use crate::{AppendWords, Command, FileName, LogWords, NodeWords, Places, TailWords};
 use clap::ArgMatches;
 use ld_ids::NoMemory;
 use ld_lsn::Lsn;
 use ld_msg::Style;
 use std::alloc::Global;
+
+/// The names of the store's and the register's file that the arguments are, which differ.
+fn files(alloc: Global, matches: &ArgMatches<'_>) -> Result<(FileName, FileName), Refusal>
+    ensures { MatchResult result
+        (λ f. AreFiles (rows_of (found_of matches.now)) f.0 f.1)
+        (Refuses ((store register : Text) → AreFiles (rows_of (found_of matches.now)) store register → ⊥)) }
+{
+    let store = file_name(alloc, matches, "store")?;
+    let register = file_name(alloc, matches, "register")?;
+    if store.as_str() == register.as_str() {
+        return Err(Refusal::OneFile);
+    }
+    Ok((store, register))
+}
 
 /// What the arguments say of a node.
 fn node_words(alloc: Global, matches: &ArgMatches<'_>) -> Result<NodeWords, Refusal>
@@ -31,8 +46,7 @@ fn node_words(alloc: Global, matches: &ArgMatches<'_>) -> Result<NodeWords, Refu
     let id = number(matches, "id", 1, 16)?;
     let config = config(alloc, text(matches, "config")?)?;
     let id = member(id, &config)?;
-    let store = file_name(alloc, matches, "store")?;
-    let register = file_name(alloc, matches, "register")?;
+    let (store, register) = files(alloc, matches)?;
     let port = number(matches, "port", 0, 65_535)?;
     let turns = number(matches, "turns", 1, 1_000_000_000)?;
     Ok(NodeWords {

@@ -1,4 +1,4 @@
-use Rattle.std.proofs.Common.{refl, ap, sym, ◌∙◌, subst, inl, inr, []}
+use Rattle.std.proofs.Common.{refl, ap, sym, ◌∙◌, subst, inl, inr, [], Some}
 use Rattle.ld_rounds.specs.Drives.{IsBroken}
 use Rattle.ld_rounds.specs.declared.ended.Ended.TheVariants as ends
 use Rattle.ld_append.specs.Acting.{Leaves, leaves_here}
@@ -10,7 +10,7 @@ use Rattle.ld_append.proofs.drives.append.Goals as goal
 pub returns-in_default-clause-appended : goal.returns-in_default-clause-appended
 returns-in_default-clause-appended g c s far b is unset told h =
     let i = g.P.Payloads.coming c.args.input.now in
-    inr (stopped_here (sequencing c.args.name) (IsBroken (g.N.Nodes.faults c.args.nodes.now) (g.N.Nodes.faults c.args.nodes.now) (g.N.Nodes.endings c.args.nodes.now) (g.N.Nodes.endings c.args.nodes.now)) c.args.config.now s.network.count b (EndAt c.args.name c.args.spec.now.log c.args.config.now s.network.count (g.P.Payloads.coming c.args.input.now) c.args.rounds ends.NoMemory) s (g.O.Sink.written c.args.out.now) (inl (inl refl, feeds_until c.args.config.now i i ends.NoMemory s [] tt (feeds_here c.args.config.now i s))))
+    inr (stopped_here (sequencing c.args.name) (IsBroken (g.N.Nodes.faults c.args.nodes.now) (g.N.Nodes.faults c.args.nodes.now) (g.N.Nodes.endings c.args.nodes.now) (g.N.Nodes.endings c.args.nodes.now)) c.args.config.now s.network.count b (EndAt c.args.name c.args.spec.now.log c.args.config.now s.network.count (g.P.Payloads.coming c.args.input.now) c.args.rounds ends.NoMemory) s (Some (g.O.Sink.written c.args.out.now)) (inl (inl refl, feeds_until c.args.config.now i i ends.NoMemory s [] tt (feeds_here c.args.config.now i s))))
 
 pub returns-clause-leaves : goal.returns-clause-leaves
 returns-clause-leaves g c =

@@ -1,4 +1,4 @@
-use Rattle.std.proofs.Common.{◌≡◌, ◌⊎◌, ◌∙◌, ℕ, refl, ap, sym, subst, inl, inr, Ok, Err, None, true, List, []}
+use Rattle.std.proofs.Common.{◌≡◌, ◌⊎◌, ◌∙◌, ℕ, refl, ap, sym, subst, inl, inr, Ok, Err, None, true, List, [], Some}
 use Rattle.std.specs.Prelude.{Result, Bool, Option, IfErr}
 use Rattle.std.proofs.lemmas.Result.{err_from_is_err_and}
 use Rattle.ld_ids.specs.Set.{members}
@@ -35,15 +35,15 @@ returns-clause-cause g c =
     let a = c.args.acting.now in
     let y = c.append-driven.new.sequencer in
     let ending = IsDriveEnding (g.G.Register.told a.register → MayCrowd (g.G.Register.may_hold a.register) c.args.spec.now.log) (λ place. g.G.Register.told a.register → g.G.Register.damaged a.register place) (g.P.Payloads.coming c.args.input.now) (g.P.Payloads.faults c.args.input.now) (g.P.Payloads.faults c.append-driven.new.input)
-    (g.O.Sink.faults c.args.out.now) (g.O.Sink.faults c.append-driven.new.out) (g.O.Sink.written c.args.out.now) (g.O.Sink.written c.append-driven.new.out) in
+    (g.O.Sink.faults c.args.out.now) (g.O.Sink.faults c.append-driven.new.out) (Some (g.O.Sink.written c.args.out.now)) (Some (g.O.Sink.written c.append-driven.new.out)) in
     subst (λ (x : Result Bool Ended). IfErr x ending) (sym (ended_round c.end.result y.end c.append-driven.result c.round_end.result c.end.ensures c.round_end.ensures))
     (round_cause (g.G.Register.told a.register → MayCrowd (g.G.Register.may_hold a.register) c.args.spec.now.log) (λ place. g.G.Register.told a.register → g.G.Register.damaged a.register place) (g.P.Payloads.coming c.args.input.now) (g.P.Payloads.faults c.args.input.now) (g.P.Payloads.faults c.append-driven.new.input)
-    (g.O.Sink.faults c.args.out.now) (g.O.Sink.faults c.append-driven.new.out) (g.O.Sink.written c.args.out.now) (g.O.Sink.written c.append-driven.new.out) _ _ y.end c.append-driven.result c.in_ok-start.ensures.later c.append-driven.ensures.cause)
+    (g.O.Sink.faults c.args.out.now) (g.O.Sink.faults c.append-driven.new.out) (Some (g.O.Sink.written c.args.out.now)) (Some (g.O.Sink.written c.append-driven.new.out)) _ _ y.end c.append-driven.result c.in_ok-start.ensures.later c.append-driven.ensures.cause)
 
 pub returns-in_default-clause-drove : goal.returns-in_default-clause-drove
 returns-in_default-clause-drove g c named none s far b is unset told h =
     let i = g.P.Payloads.coming c.args.input.now in
-    inr (stopped_here (sequencing c.args.name.now) (IsBroken (g.N.Nodes.faults c.args.nodes.now) (g.N.Nodes.faults c.args.nodes.now) (g.N.Nodes.endings c.args.nodes.now) (g.N.Nodes.endings c.args.nodes.now)) c.args.config.now s.network.count b (EndAt c.args.name.now c.args.spec.now.log c.args.config.now s.network.count i c.args.rounds ends.NoMemory) s (g.O.Sink.written c.args.out.now) (inl (inl refl, feeds_until c.args.config.now i i ends.NoMemory s [] tt (feeds_here c.args.config.now i s))))
+    inr (stopped_here (sequencing c.args.name.now) (IsBroken (g.N.Nodes.faults c.args.nodes.now) (g.N.Nodes.faults c.args.nodes.now) (g.N.Nodes.endings c.args.nodes.now) (g.N.Nodes.endings c.args.nodes.now)) c.args.config.now s.network.count b (EndAt c.args.name.now c.args.spec.now.log c.args.config.now s.network.count i c.args.rounds ends.NoMemory) s (Some (g.O.Sink.written c.args.out.now)) (inl (inl refl, feeds_until c.args.config.now i i ends.NoMemory s [] tt (feeds_here c.args.config.now i s))))
 
 pub returns-in_err-start-clause-drove : goal.returns-in_err-start-clause-drove
 returns-in_err-start-clause-drove g c named none s far b is unset told h =
@@ -52,8 +52,8 @@ returns-in_err-start-clause-drove g c named none s far b is unset told h =
     let first = s.network.count in
     let name = c.args.name.now in
     let broken = IsBroken (g.N.Nodes.faults c.args.nodes.now) (g.N.Nodes.faults c.args.nodes.now) (g.N.Nodes.endings c.args.nodes.now) (g.N.Nodes.endings c.args.nodes.now) in
-    let old = g.O.Sink.written c.args.out.now in
-    let new = g.O.Sink.written c.start.new.out in
+    let old = Some (g.O.Sink.written c.args.out.now) in
+    let new = Some (g.O.Sink.written c.start.new.out) in
     let a = c.args.acting.now in
     let z = c.start.new.acting in
     let e = c.in_err-start.field-0.0 in
@@ -70,9 +70,9 @@ returns-clause-drove g c named none s far b is unset told h =
     let first = s.network.count in
     let name = c.args.name.now in
     let broken = IsBroken (g.N.Nodes.faults c.args.nodes.now) (g.N.Nodes.faults c.append-driven.new.nodes) (g.N.Nodes.endings c.args.nodes.now) (g.N.Nodes.endings c.append-driven.new.nodes) in
-    let old = g.O.Sink.written c.args.out.now in
-    let mid = g.O.Sink.written c.start.new.out in
-    let new = g.O.Sink.written c.append-driven.new.out in
+    let old = Some (g.O.Sink.written c.args.out.now) in
+    let mid = Some (g.O.Sink.written c.start.new.out) in
+    let new = Some (g.O.Sink.written c.append-driven.new.out) in
     let a = c.args.acting.now in
     let z = c.start.new.acting in
     let y = c.append-driven.new.sequencer in

@@ -1,5 +1,6 @@
-use Rattle.std.proofs.Common.{◌≡◌, ◌⊎◌, rules, subst, true}
+use Rattle.std.proofs.Common.{◌≡◌, ◌⊎◌, rules, subst, true, Some}
 use Rattle.std.specs.Io.KnownBytes.{prepend_known}
+use Rattle.ld_io.specs.Input.{left_of}
 use Rattle.ld_append.specs.Acting.{MayCrowd, HoldsSome, LacksRoom}
 use Rattle.ld_append.specs.Appends.{IsAppended, IsEndOfAppend, IsRefused}
 use Rattle.ld_cli.specs.Clients.{EndsDrive}
@@ -11,8 +12,8 @@ use Rattle.ld_cli.proofs.clients.append_lines.Goals as goal
 
 pub returns-clause-ends : goal.returns-clause-ends
 returns-clause-ends g c = ends_so (g.N.Nodes.faults c.args.nodes.now) (g.N.Nodes.faults c.append-ended.new.nodes) c.failures-before.result c.failures-now.result
-    (IsEndOfAppend (g.G.Register.told c.args.reg.now → MayCrowd (g.G.Register.may_hold c.args.reg.now) c.args.spec.now.log) (λ place. g.G.Register.told c.args.reg.now → g.G.Register.damaged c.args.reg.now place) (input_after c.args.lines.now.held.now.batches c.args.lines.now.held.now.number (prepend_known c.args.lines.now.held.now.buffer (g.I.Source.left c.args.lines.now.input.now))) (g.I.Source.faults c.args.lines.now.input.now) (g.I.Source.faults c.append-ended.new.input.input.now) (g.O.Sink.faults c.args.out.now)
-    (g.O.Sink.faults c.append-ended.new.out) (g.O.Sink.written c.args.out.now) (g.O.Sink.written c.append-ended.new.out))
+    (IsEndOfAppend (g.G.Register.told c.args.reg.now → MayCrowd (g.G.Register.may_hold c.args.reg.now) c.args.spec.now.log) (λ place. g.G.Register.told c.args.reg.now → g.G.Register.damaged c.args.reg.now place) (input_after c.args.lines.now.held.now.batches c.args.lines.now.held.now.number (prepend_known c.args.lines.now.held.now.buffer (left_of (g.I.Source.known c.args.lines.now.input.now) (g.I.Source.gave c.args.lines.now.input.now)))) (g.I.Source.faults c.args.lines.now.input.now) (g.I.Source.faults c.append-ended.new.input.input.now) (g.O.Sink.faults c.args.out.now)
+    (g.O.Sink.faults c.append-ended.new.out) (Some (g.O.Sink.written c.args.out.now)) (Some (g.O.Sink.written c.append-ended.new.out)))
     c.append-ended.result.0 c.status_of.result c.failures-before.ensures c.failures-now.ensures c.status_of.ensures c.append-ended.ensures.cause
 
 pub returns-clause-appended : goal.returns-clause-appended
@@ -20,13 +21,13 @@ returns-clause-appended g c = λ s far bounds spec unset told begins.
     subst
     (λ r.
     (g.N.Nodes.silent c.append-ended.new.nodes ≡ true) ⊎ EndsDrive (g.N.Nodes.faults c.args.nodes.now) (g.N.Nodes.faults c.append-ended.new.nodes)
-    (IsAppended c.args.name c.args.spec.now.log (IsBroken (g.N.Nodes.faults c.args.nodes.now) (g.N.Nodes.faults c.append-ended.new.nodes) (g.N.Nodes.endings c.args.nodes.now) (g.N.Nodes.endings c.append-ended.new.nodes)) (input_after c.args.lines.now.held.now.batches c.args.lines.now.held.now.number (prepend_known c.args.lines.now.held.now.buffer (g.I.Source.left c.args.lines.now.input.now))) c.args.words.now.rounds
-    (g.N.Nodes.tells c.append-ended.new.nodes) (g.G.Register.tells r) c.args.words.now.config s (g.O.Sink.written c.args.out.now) (g.O.Sink.written c.append-ended.new.out)) c.status_of.result)
+    (IsAppended c.args.name c.args.spec.now.log (IsBroken (g.N.Nodes.faults c.args.nodes.now) (g.N.Nodes.faults c.append-ended.new.nodes) (g.N.Nodes.endings c.args.nodes.now) (g.N.Nodes.endings c.append-ended.new.nodes)) (input_after c.args.lines.now.held.now.batches c.args.lines.now.held.now.number (prepend_known c.args.lines.now.held.now.buffer (left_of (g.I.Source.known c.args.lines.now.input.now) (g.I.Source.gave c.args.lines.now.input.now)))) c.args.words.now.rounds
+    (g.N.Nodes.tells c.append-ended.new.nodes) (g.G.Register.tells r) c.args.words.now.config s (Some (g.O.Sink.written c.args.out.now)) (Some (g.O.Sink.written c.append-ended.new.out))) c.status_of.result)
     (search rules)
     (driven_so (g.N.Nodes.silent c.append-ended.new.nodes ≡ true)
     (λ rounds.
-    IsAppended c.args.name c.args.spec.now.log (IsBroken (g.N.Nodes.faults c.args.nodes.now) (g.N.Nodes.faults c.append-ended.new.nodes) (g.N.Nodes.endings c.args.nodes.now) (g.N.Nodes.endings c.append-ended.new.nodes)) (input_after c.args.lines.now.held.now.batches c.args.lines.now.held.now.number (prepend_known c.args.lines.now.held.now.buffer (g.I.Source.left c.args.lines.now.input.now))) rounds
-    (g.N.Nodes.tells c.append-ended.new.nodes) (g.G.Register.tells c.append-ended.result.1.now) c.args.words.now.config s (g.O.Sink.written c.args.out.now) (g.O.Sink.written c.append-ended.new.out))
+    IsAppended c.args.name c.args.spec.now.log (IsBroken (g.N.Nodes.faults c.args.nodes.now) (g.N.Nodes.faults c.append-ended.new.nodes) (g.N.Nodes.endings c.args.nodes.now) (g.N.Nodes.endings c.append-ended.new.nodes)) (input_after c.args.lines.now.held.now.batches c.args.lines.now.held.now.number (prepend_known c.args.lines.now.held.now.buffer (left_of (g.I.Source.known c.args.lines.now.input.now) (g.I.Source.gave c.args.lines.now.input.now)))) rounds
+    (g.N.Nodes.tells c.append-ended.new.nodes) (g.G.Register.tells c.append-ended.result.1.now) c.args.words.now.config s (Some (g.O.Sink.written c.args.out.now)) (Some (g.O.Sink.written c.append-ended.new.out)))
     c.from.result c.args.words.now.rounds c.from.ensures
     (g.N.Nodes.faults c.args.nodes.now) (g.N.Nodes.faults c.append-ended.new.nodes) c.failures-before.result c.failures-now.result c.append-ended.result.0 c.status_of.result c.failures-before.ensures c.failures-now.ensures c.status_of.ensures
     (c.append-ended.ensures.appended s far bounds spec unset told begins))

@@ -1,4 +1,5 @@
-use Rattle.std.proofs.Common.{◌≡◌, ◌∙◌, ◌⊎◌, rules, inl, inr, refl, ap, subst, ℕ, List, Option, true, codes}
+use Rattle.std.proofs.Common.{◌≡◌, ◌∙◌, ◌⊎◌, rules, inl, inr, refl, ap, subst, ℕ, List, Option, true, codes, Some}
+use Rattle.ld_io.specs.Input.{left_of}
 use Rattle.ld_rounds.specs.Drives.{IsBroken}
 use Rattle.ld_append.specs.Acting.{MayCrowd}
 use Rattle.ld_append.specs.Appends.{IsAppended, IsEndOfAppend}
@@ -16,7 +17,7 @@ use Rattle.ld_cli.proofs.clients.appended.Goals as goal
 
 pub returns-in_default : goal.returns-in_default
 returns-in_default g c = record {
-  appended = λ s far told begins unset. inr (nothing_done (codes "s") c.args.words.now.of.log (IsBroken (g.N.Nodes.faults c.args.nodes.now) (g.N.Nodes.faults c.args.nodes.now) (g.N.Nodes.endings c.args.nodes.now) (g.N.Nodes.endings c.args.nodes.now)) (payloads_in c.args.words.now.batches (g.I.Source.left c.args.input.now)) c.args.words.now.of.rounds c.args.words.now.of.config s (g.O.Sink.written c.args.out.now));
+  appended = λ s far told begins unset. inr (nothing_done (codes "s") c.args.words.now.of.log (IsBroken (g.N.Nodes.faults c.args.nodes.now) (g.N.Nodes.faults c.args.nodes.now) (g.N.Nodes.endings c.args.nodes.now) (g.N.Nodes.endings c.args.nodes.now)) (payloads_in c.args.words.now.batches (left_of (g.I.Source.known c.args.input.now) (g.I.Source.gave c.args.input.now))) c.args.words.now.of.rounds c.args.words.now.of.config s (Some (g.O.Sink.written c.args.out.now)));
   ends = inl tt;
   refused = tt;
   off = tt;
@@ -24,7 +25,7 @@ returns-in_default g c = record {
 
 pub returns-in_default-new : goal.returns-in_default-new
 returns-in_default-new g c = record {
-  appended = λ s far told begins unset. inr (nothing_done (codes "s") c.args.words.now.of.log (IsBroken (g.N.Nodes.faults c.args.nodes.now) (g.N.Nodes.faults c.args.nodes.now) (g.N.Nodes.endings c.args.nodes.now) (g.N.Nodes.endings c.args.nodes.now)) (payloads_in c.args.words.now.batches (g.I.Source.left c.args.input.now)) c.args.words.now.of.rounds c.args.words.now.of.config s (g.O.Sink.written c.args.out.now));
+  appended = λ s far told begins unset. inr (nothing_done (codes "s") c.args.words.now.of.log (IsBroken (g.N.Nodes.faults c.args.nodes.now) (g.N.Nodes.faults c.args.nodes.now) (g.N.Nodes.endings c.args.nodes.now) (g.N.Nodes.endings c.args.nodes.now)) (payloads_in c.args.words.now.batches (left_of (g.I.Source.known c.args.input.now) (g.I.Source.gave c.args.input.now))) c.args.words.now.of.rounds c.args.words.now.of.config s (Some (g.O.Sink.written c.args.out.now)));
   ends = inl tt;
   refused = tt;
   off = tt;
@@ -38,16 +39,16 @@ returns g c =
     let before = g.N.Nodes.faults c.args.nodes.now in
     let now = g.N.Nodes.faults c.append_lines.new.nodes in
     let broken = IsBroken before now (g.N.Nodes.endings c.args.nodes.now) (g.N.Nodes.endings c.append_lines.new.nodes) in
-    let coming = payloads_in c.args.words.now.batches (g.I.Source.left c.args.input.now) in
+    let coming = payloads_in c.args.words.now.batches (left_of (g.I.Source.known c.args.input.now) (g.I.Source.gave c.args.input.now)) in
     let damaged = λ (place : ℕ). (g.G.Register.told c.args.reg.now → g.G.Register.damaged c.args.reg.now place) in
     let reads = g.I.Source.faults c.append_lines.new.lines.input.now in
-    let held = input_after c.in-Ok-new.held.batches c.in-Ok-new.held.number (prepend_known c.in-Ok-new.held.buffer (g.I.Source.left c.args.input.now)) in
-    let fresh = nothing_held c.args.words.now.batches c.in-Ok-new.held.batches c.in-Ok-new.held.number c.in-Ok-new.held.buffer (g.I.Source.left c.args.input.now) c.in-Ok-new.ensures.batches c.in-Ok-new.ensures.number c.in-Ok-new.ensures.buffer in
+    let held = input_after c.in-Ok-new.held.batches c.in-Ok-new.held.number (prepend_known c.in-Ok-new.held.buffer (left_of (g.I.Source.known c.args.input.now) (g.I.Source.gave c.args.input.now))) in
+    let fresh = nothing_held c.args.words.now.batches c.in-Ok-new.held.batches c.in-Ok-new.held.number c.in-Ok-new.held.buffer (left_of (g.I.Source.known c.args.input.now) (g.I.Source.gave c.args.input.now)) c.in-Ok-new.ensures.batches c.in-Ok-new.ensures.number c.in-Ok-new.ensures.buffer in
     let found = c.in-Some.ensures.found in
     let log : c.in-Some.spec.log ≡ c.args.words.now.of.log = ap (λ (x : Spec). x.log) found.0 ∙ spec_log c.args.words.now.of.log c.args.words.now.of.config.logs in
     let end = λ (l : ℕ) (i : Option Input) (n : ℕ). IsEndOfAppend (g.G.Register.told c.args.reg.now → MayCrowd (g.G.Register.may_hold c.args.reg.now) l) damaged i (g.I.Source.faults c.args.input.now) n (g.O.Sink.faults c.args.out.now) (g.O.Sink.faults c.append_lines.new.out)
-    (g.O.Sink.written c.args.out.now) (g.O.Sink.written c.append_lines.new.out) in
-    let went = λ (name : List ℕ) (l : ℕ) (i : Option Input) (s : State). IsAppended name l broken i c.args.words.now.of.rounds (g.N.Nodes.tells c.append_lines.new.nodes) (g.G.Register.tells c.append_lines.new.reg) c.args.words.now.of.config s (g.O.Sink.written c.args.out.now) (g.O.Sink.written c.append_lines.new.out) in
+    (Some (g.O.Sink.written c.args.out.now)) (Some (g.O.Sink.written c.append_lines.new.out)) in
+    let went = λ (name : List ℕ) (l : ℕ) (i : Option Input) (s : State). IsAppended name l broken i c.args.words.now.of.rounds (g.N.Nodes.tells c.append_lines.new.nodes) (g.G.Register.tells c.append_lines.new.reg) c.args.words.now.of.config s (Some (g.O.Sink.written c.args.out.now)) (Some (g.O.Sink.written c.append_lines.new.out)) in
     record {
       appended = λ s far told begins unset. subst (λ (i : Option Input). (g.N.Nodes.silent c.append_lines.new.nodes ≡ true) ⊎ EndsDrive before now (went (codes "s") c.args.words.now.of.log i s) c.append_lines.result) fresh
           (subst (λ (l : ℕ). (g.N.Nodes.silent c.append_lines.new.nodes ≡ true) ⊎ EndsDrive before now (went (codes "s") l held s) c.append_lines.result) log

@@ -1,4 +1,4 @@
-use Rattle.std.proofs.Common.{◌≡◌, ◌⊎◌, rules, List, ℕ, inr, subst, true, codes}
+use Rattle.std.proofs.Common.{◌≡◌, ◌⊎◌, rules, List, ℕ, inr, subst, true, codes, Some}
 use Rattle.ld_rounds.specs.Drives.{IsBroken}
 use Rattle.ld_rounds.specs.Endings.{IsOffAs}
 use Rattle.ld_tail.specs.Tails.{IsTailed, IsTailEnd}
@@ -8,7 +8,7 @@ use Rattle.ld_cli.proofs.clients.tailed.Goals as goal
 
 pub returns-in_default-clause-tailed : goal.returns-in_default-clause-tailed
 returns-in_default-clause-tailed g c = λ s far told begins.
-    inr (nothing_read (record { name = codes "r"; log = c.args.words.now.of.log; from = c.args.words.now.from; until = c.args.words.now.until; style = c.args.words.now.style }) (IsBroken (g.N.Nodes.faults c.args.nodes.now) (g.N.Nodes.faults c.args.nodes.now) (g.N.Nodes.endings c.args.nodes.now) (g.N.Nodes.endings c.args.nodes.now)) c.args.words.now.of.rounds c.args.words.now.of.config s (g.O.Sink.written c.args.out.now))
+    inr (nothing_read (record { name = codes "r"; log = c.args.words.now.of.log; from = c.args.words.now.from; until = c.args.words.now.until; style = c.args.words.now.style }) (IsBroken (g.N.Nodes.faults c.args.nodes.now) (g.N.Nodes.faults c.args.nodes.now) (g.N.Nodes.endings c.args.nodes.now) (g.N.Nodes.endings c.args.nodes.now)) c.args.words.now.of.rounds c.args.words.now.of.config s (Some (g.O.Sink.written c.args.out.now)))
 
 pub returns-clause-tailed : goal.returns-clause-tailed
 returns-clause-tailed g c = λ s far told begins.
@@ -16,18 +16,18 @@ returns-clause-tailed g c = λ s far told begins.
     (λ r.
     (g.N.Nodes.silent c.tail-ended.new.nodes ≡ true) ⊎ EndsDrive (g.N.Nodes.faults c.args.nodes.now) (g.N.Nodes.faults c.tail-ended.new.nodes)
     (IsTailed (record { name = codes "r"; log = c.args.words.now.of.log; from = c.args.words.now.from; until = c.args.words.now.until; style = c.args.words.now.style }) (IsBroken (g.N.Nodes.faults c.args.nodes.now) (g.N.Nodes.faults c.tail-ended.new.nodes) (g.N.Nodes.endings c.args.nodes.now) (g.N.Nodes.endings c.tail-ended.new.nodes)) c.args.words.now.of.rounds
-    (g.N.Nodes.tells c.tail-ended.new.nodes) (g.G.Register.tells r) c.args.words.now.of.config s (g.O.Sink.written c.args.out.now) (g.O.Sink.written c.tail-ended.new.out)) c.status_of.result)
+    (g.N.Nodes.tells c.tail-ended.new.nodes) (g.G.Register.tells r) c.args.words.now.of.config s (Some (g.O.Sink.written c.args.out.now)) (Some (g.O.Sink.written c.tail-ended.new.out))) c.status_of.result)
     (search rules)
     (driven_so (g.N.Nodes.silent c.tail-ended.new.nodes ≡ true)
     (λ rounds.
     IsTailed (record { name = codes "r"; log = c.args.words.now.of.log; from = c.args.words.now.from; until = c.args.words.now.until; style = c.args.words.now.style }) (IsBroken (g.N.Nodes.faults c.args.nodes.now) (g.N.Nodes.faults c.tail-ended.new.nodes) (g.N.Nodes.endings c.args.nodes.now) (g.N.Nodes.endings c.tail-ended.new.nodes)) rounds
-    (g.N.Nodes.tells c.tail-ended.new.nodes) (g.G.Register.tells c.tail-ended.result.1.now) c.args.words.now.of.config s (g.O.Sink.written c.args.out.now) (g.O.Sink.written c.tail-ended.new.out))
+    (g.N.Nodes.tells c.tail-ended.new.nodes) (g.G.Register.tells c.tail-ended.result.1.now) c.args.words.now.of.config s (Some (g.O.Sink.written c.args.out.now)) (Some (g.O.Sink.written c.tail-ended.new.out)))
     c.from.result c.args.words.now.of.rounds c.from.ensures
     (g.N.Nodes.faults c.args.nodes.now) (g.N.Nodes.faults c.tail-ended.new.nodes) c.failures-before.result c.failures-now.result c.tail-ended.result.0 c.status_of.result c.failures-before.ensures c.failures-now.ensures c.status_of.ensures
     (subst
     (λ (name : List ℕ).
     (g.N.Nodes.silent c.tail-ended.new.nodes ≡ true) ⊎ IsTailed (record { name = name; log = c.args.words.now.of.log; from = c.args.words.now.from; until = c.args.words.now.until; style = c.args.words.now.style }) (IsBroken (g.N.Nodes.faults c.args.nodes.now) (g.N.Nodes.faults c.tail-ended.new.nodes) (g.N.Nodes.endings c.args.nodes.now) (g.N.Nodes.endings c.tail-ended.new.nodes)) c.from.result
-    (g.N.Nodes.tells c.tail-ended.new.nodes) (g.G.Register.tells c.tail-ended.result.1.now) c.args.words.now.of.config s (g.O.Sink.written c.args.out.now) (g.O.Sink.written c.tail-ended.new.out) c.tail-ended.result.0)
+    (g.N.Nodes.tells c.tail-ended.new.nodes) (g.G.Register.tells c.tail-ended.result.1.now) c.args.words.now.of.config s (Some (g.O.Sink.written c.args.out.now)) (Some (g.O.Sink.written c.tail-ended.new.out)) c.tail-ended.result.0)
     c.in-Ok.ensures (c.tail-ended.ensures.tailed s far told begins)))
 
 pub returns-clause-ends : goal.returns-clause-ends

@@ -1,4 +1,5 @@
-use Rattle.std.proofs.Common.{◌≡◌, ◌⊎◌, refl, sym, ◌∙◌, subst, true, codes}
+use Rattle.std.proofs.Common.{◌≡◌, ◌⊎◌, refl, sym, ◌∙◌, subst, true, codes, Some}
+use Rattle.ld_io.specs.Input.{left_of}
 use Rattle.ld_serve.specs.Complete.{MayOpen}
 use Rattle.ld_words.specs.declared.command.AppendWords.{AppendWords}
 use Rattle.ld_words.specs.declared.command.TailWords.{TailWords}
@@ -23,16 +24,16 @@ returns-in-Node-clause-complete_node g c = λ n start bytes asks told spoken is 
 
 pub returns-in-Append-clause-usage : goal.returns-in-Append-clause-usage
 returns-in-Append-clause-usage g c = never_usage (g.N.Nodes.faults c.args.nodes.now) (g.N.Nodes.faults c.appended.new.nodes)
-    (IsEndOfAppend (g.G.Register.told c.args.reg.now → MayCrowd (g.G.Register.may_hold c.args.reg.now) c.in-Append.append.of.log) (λ place. g.G.Register.told c.args.reg.now → g.G.Register.damaged c.args.reg.now place) (payloads_in c.in-Append.append.batches (g.I.Source.left c.args.input.now)) (g.I.Source.faults c.args.input.now) (g.I.Source.faults c.appended.new.input) (g.O.Sink.faults c.args.out.now) (g.O.Sink.faults c.appended.new.out)
-    (g.O.Sink.written c.args.out.now) (g.O.Sink.written c.appended.new.out))
+    (IsEndOfAppend (g.G.Register.told c.args.reg.now → MayCrowd (g.G.Register.may_hold c.args.reg.now) c.in-Append.append.of.log) (λ place. g.G.Register.told c.args.reg.now → g.G.Register.damaged c.args.reg.now place) (payloads_in c.in-Append.append.batches (left_of (g.I.Source.known c.args.input.now) (g.I.Source.gave c.args.input.now))) (g.I.Source.faults c.args.input.now) (g.I.Source.faults c.appended.new.input) (g.O.Sink.faults c.args.out.now) (g.O.Sink.faults c.appended.new.out)
+    (Some (g.O.Sink.written c.args.out.now)) (Some (g.O.Sink.written c.appended.new.out)))
     c.appended.result c.appended.ensures.ends
 
 pub returns-in-Append-clause-append_ends : goal.returns-in-Append-clause-append_ends
 returns-in-Append-clause-append_ends g c = λ w is.
     let same : w ≡ c.in-Append.append = one_append w c.in-Append.append (sym is ∙ c.in-Append.is) in
     subst (λ (u : AppendWords). EndsDrive (g.N.Nodes.faults c.args.nodes.now) (g.N.Nodes.faults c.appended.new.nodes)
-    (IsEndOfAppend (g.G.Register.told c.args.reg.now → MayCrowd (g.G.Register.may_hold c.args.reg.now) u.of.log) (λ place. g.G.Register.told c.args.reg.now → g.G.Register.damaged c.args.reg.now place) (payloads_in u.batches (g.I.Source.left c.args.input.now)) (g.I.Source.faults c.args.input.now) (g.I.Source.faults c.appended.new.input) (g.O.Sink.faults c.args.out.now) (g.O.Sink.faults c.appended.new.out)
-    (g.O.Sink.written c.args.out.now) (g.O.Sink.written c.appended.new.out)) c.appended.result) (sym same) c.appended.ensures.ends
+    (IsEndOfAppend (g.G.Register.told c.args.reg.now → MayCrowd (g.G.Register.may_hold c.args.reg.now) u.of.log) (λ place. g.G.Register.told c.args.reg.now → g.G.Register.damaged c.args.reg.now place) (payloads_in u.batches (left_of (g.I.Source.known c.args.input.now) (g.I.Source.gave c.args.input.now))) (g.I.Source.faults c.args.input.now) (g.I.Source.faults c.appended.new.input) (g.O.Sink.faults c.args.out.now) (g.O.Sink.faults c.appended.new.out)
+    (Some (g.O.Sink.written c.args.out.now)) (Some (g.O.Sink.written c.appended.new.out))) c.appended.result) (sym same) c.appended.ensures.ends
 
 pub returns-in-Append-clause-append_refused : goal.returns-in-Append-clause-append_refused
 returns-in-Append-clause-append_refused g c = λ w is. c.appended.ensures.refused
@@ -45,8 +46,8 @@ returns-in-Append-clause-write g c = append_write_rose _ _ _ _ _ _ _ _ _ _ _ c.a
 
 pub returns-in-Append-clause-disk : goal.returns-in-Append-clause-disk
 returns-in-Append-clause-disk g c = disk_stays (g.N.Nodes.faults c.args.nodes.now) (g.N.Nodes.faults c.appended.new.nodes)
-    (IsEndOfAppend (g.G.Register.told c.args.reg.now → MayCrowd (g.G.Register.may_hold c.args.reg.now) c.in-Append.append.of.log) (λ place. g.G.Register.told c.args.reg.now → g.G.Register.damaged c.args.reg.now place) (payloads_in c.in-Append.append.batches (g.I.Source.left c.args.input.now)) (g.I.Source.faults c.args.input.now) (g.I.Source.faults c.appended.new.input) (g.O.Sink.faults c.args.out.now) (g.O.Sink.faults c.appended.new.out)
-    (g.O.Sink.written c.args.out.now) (g.O.Sink.written c.appended.new.out))
+    (IsEndOfAppend (g.G.Register.told c.args.reg.now → MayCrowd (g.G.Register.may_hold c.args.reg.now) c.in-Append.append.of.log) (λ place. g.G.Register.told c.args.reg.now → g.G.Register.damaged c.args.reg.now place) (payloads_in c.in-Append.append.batches (left_of (g.I.Source.known c.args.input.now) (g.I.Source.gave c.args.input.now))) (g.I.Source.faults c.args.input.now) (g.I.Source.faults c.appended.new.input) (g.O.Sink.faults c.args.out.now) (g.O.Sink.faults c.appended.new.out)
+    (Some (g.O.Sink.written c.args.out.now)) (Some (g.O.Sink.written c.appended.new.out)))
     _ _ c.appended.result c.appended.ensures.ends refl
 
 pub returns-in-Append-clause-register : goal.returns-in-Append-clause-register
@@ -97,7 +98,7 @@ returns-in-Tail-clause-tailed g c = λ t s far is told begins.
     (λ (u : TailWords).
     (g.N.Nodes.silent c.tailed.new.nodes ≡ true) ⊎ EndsDrive (g.N.Nodes.faults c.args.nodes.now) (g.N.Nodes.faults c.tailed.new.nodes)
     (IsTailed (record { name = codes "r"; log = u.of.log; from = u.from; until = u.until; style = u.style }) (IsBroken (g.N.Nodes.faults c.args.nodes.now) (g.N.Nodes.faults c.tailed.new.nodes) (g.N.Nodes.endings c.args.nodes.now) (g.N.Nodes.endings c.tailed.new.nodes))
-    u.of.rounds (g.N.Nodes.tells c.tailed.new.nodes) (g.G.Register.tells c.tailed.new.reg) u.of.config s (g.O.Sink.written c.args.out.now) (g.O.Sink.written c.tailed.new.out)) c.tailed.result)
+    u.of.rounds (g.N.Nodes.tells c.tailed.new.nodes) (g.G.Register.tells c.tailed.new.reg) u.of.config s (Some (g.O.Sink.written c.args.out.now)) (Some (g.O.Sink.written c.tailed.new.out))) c.tailed.result)
     (sym same)
     (c.tailed.ensures.tailed s far (subst (λ (u : TailWords). g.N.Nodes.tells c.args.nodes.now u.of.config far) same told) (subst (λ (u : TailWords). Begins (HasNoReaders (g.G.Register.tells c.args.reg.now)) u.of.config s far) same begins))
 
@@ -108,7 +109,7 @@ returns-in-Append-clause-appended g c = λ w s far is told begins unset.
     (λ (u : AppendWords).
     (g.N.Nodes.silent c.appended.new.nodes ≡ true) ⊎ EndsDrive (g.N.Nodes.faults c.args.nodes.now) (g.N.Nodes.faults c.appended.new.nodes)
     (IsAppended (codes "s") u.of.log (IsBroken (g.N.Nodes.faults c.args.nodes.now) (g.N.Nodes.faults c.appended.new.nodes) (g.N.Nodes.endings c.args.nodes.now) (g.N.Nodes.endings c.appended.new.nodes))
-    (payloads_in u.batches (g.I.Source.left c.args.input.now)) u.of.rounds (g.N.Nodes.tells c.appended.new.nodes) (g.G.Register.tells c.appended.new.reg) u.of.config s (g.O.Sink.written c.args.out.now) (g.O.Sink.written c.appended.new.out)) c.appended.result)
+    (payloads_in u.batches (left_of (g.I.Source.known c.args.input.now) (g.I.Source.gave c.args.input.now))) u.of.rounds (g.N.Nodes.tells c.appended.new.nodes) (g.G.Register.tells c.appended.new.reg) u.of.config s (Some (g.O.Sink.written c.args.out.now)) (Some (g.O.Sink.written c.appended.new.out))) c.appended.result)
     (sym same)
     (c.appended.ensures.appended s far (subst (λ (u : AppendWords). g.N.Nodes.tells c.args.nodes.now u.of.config far) same told) (subst (λ (u : AppendWords). Begins (HasNoSequencers (g.G.Register.tells c.args.reg.now)) u.of.config s far) same begins) (subst (λ (u : AppendWords). spec_set u.of.config s u.of.log ≡ first_spec u.of.config u.of.log) same unset))
 

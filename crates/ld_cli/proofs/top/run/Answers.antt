@@ -1,10 +1,15 @@
-use Rattle.std.proofs.Common.{inr, sym, subst, codes, map, string_bytes}
+use Rattle.std.proofs.Common.{inr, sym, subst, codes, map, string_bytes, length, drop, Option, Some}
+use Rattle.std.specs.Prelude.{MatchOption}
+use Rattle.ld_io.specs.Input.{left_of}
+use Rattle.ld_words.specs.Meaning.{Asks, IsNoCommand}
+use Rattle.ld_words.specs.declared.command.Command.{Command}
 use Rattle.ld_words.specs.declared.command.Command.TheVariants.{Replay, Exercise, Node, Append, Tail}
 use Rattle.ld_rounds.specs.Drives.{IsBroken}
 use Rattle.ld_cli.specs.Clients.{Drives}
 use Rattle.ld_cli.specs.Payloads.{payloads_in}
 use Rattle.ld_cli.proofs.Asked.{asked_one, asked_none}
 use Rattle.ld_cli.proofs.Drives.{nothing_done, nothing_read}
+use Rattle.ld_cli.proofs.PlayLoop.{silent}
 use Rattle.ld_cli.proofs.top.run.Goals as goal
 
 pub returns-in-Ok-Some-clause-exercised : goal.returns-in-Ok-Some-clause-exercised
@@ -26,6 +31,26 @@ returns-in-Ok-Some-clause-complete_node g c = λ n start bytes asks told spoken 
 pub returns-in-Ok-Some-clause-drawn : goal.returns-in-Ok-Some-clause-drawn
 returns-in-Ok-Some-clause-drawn g c = λ n asks told.
     c.carry_out.ensures.drawn n (asked_one (map string_bytes c.args.words.now) c.in-Ok-Some.field-0 c.in-Ok-Some.command (Node n) c.in-Ok-Some.field-0-is c.in-Ok-Some.ensures.asks asks) told
+
+pub returns-in-Ok-Some-clause-replayed : goal.returns-in-Ok-Some-clause-replayed
+returns-in-Ok-Some-clause-replayed g c = λ asks.
+    c.carry_out.ensures.replayed (asked_one (map string_bytes c.args.words.now) c.in-Ok-Some.field-0 c.in-Ok-Some.command Replay c.in-Ok-Some.field-0-is c.in-Ok-Some.ensures.asks asks)
+
+pub returns-in-Ok-Some-clause-fed : goal.returns-in-Ok-Some-clause-fed
+returns-in-Ok-Some-clause-fed g c = λ asks.
+    c.carry_out.ensures.fed (asked_one (map string_bytes c.args.words.now) c.in-Ok-Some.field-0 c.in-Ok-Some.command Replay c.in-Ok-Some.field-0-is c.in-Ok-Some.ensures.asks asks)
+
+pub returns-in-Ok-Some-clause-read_to_end : goal.returns-in-Ok-Some-clause-read_to_end
+returns-in-Ok-Some-clause-read_to_end g c = λ asks.
+    c.carry_out.ensures.read_to_end (asked_one (map string_bytes c.args.words.now) c.in-Ok-Some.field-0 c.in-Ok-Some.command Replay c.in-Ok-Some.field-0-is c.in-Ok-Some.ensures.asks asks)
+
+pub returns-in-Ok-Some-clause-transcribed : goal.returns-in-Ok-Some-clause-transcribed
+returns-in-Ok-Some-clause-transcribed g c = λ asks.
+    c.carry_out.ensures.transcribed (asked_one (map string_bytes c.args.words.now) c.in-Ok-Some.field-0 c.in-Ok-Some.command Replay c.in-Ok-Some.field-0-is c.in-Ok-Some.ensures.asks asks)
+
+pub returns-in-Ok-Some-clause-complete : goal.returns-in-Ok-Some-clause-complete
+returns-in-Ok-Some-clause-complete g c = λ asks.
+    c.carry_out.ensures.complete (asked_one (map string_bytes c.args.words.now) c.in-Ok-Some.field-0 c.in-Ok-Some.command Replay c.in-Ok-Some.field-0-is c.in-Ok-Some.ensures.asks asks)
 
 pub returns-in-Ok-None-clause-replayed : goal.returns-in-Ok-None-clause-replayed
 returns-in-Ok-None-clause-replayed g c = λ asks. absurd (asked_none (map string_bytes c.args.words.now) c.in-Ok-None.field-0 Replay c.in-Ok-None.field-0-is c.in-Ok-None.ensures.asks asks)
@@ -97,13 +122,16 @@ pub returns-in-Ok-None-clause-appended : goal.returns-in-Ok-None-clause-appended
 returns-in-Ok-None-clause-appended g c = λ w s far asks told begins unset.
     absurd (asked_none (map string_bytes c.args.words.now) c.in-Ok-None.field-0 (Append w) c.in-Ok-None.field-0-is c.in-Ok-None.ensures.asks asks)
 
+pub returns-in-Err-clause-replayed : goal.returns-in-Err-clause-replayed
+returns-in-Err-clause-replayed g c = λ asks all may. silent (drop (length (g.I.Source.gave c.args.input.now)) all) (Some (g.O.Sink.written c.args.out.now))
+
 pub returns-in-Err-clause-tailed : goal.returns-in-Err-clause-tailed
 returns-in-Err-clause-tailed g c = λ t s far asks told begins.
-    inr (nothing_read (record { name = codes "r"; log = t.of.log; from = t.from; until = t.until; style = t.style }) (IsBroken (g.N.Nodes.faults c.args.nodes.now) (g.N.Nodes.faults c.args.nodes.now) (g.N.Nodes.endings c.args.nodes.now) (g.N.Nodes.endings c.args.nodes.now)) t.of.rounds t.of.config s (g.O.Sink.written c.args.out.now))
+    inr (nothing_read (record { name = codes "r"; log = t.of.log; from = t.from; until = t.until; style = t.style }) (IsBroken (g.N.Nodes.faults c.args.nodes.now) (g.N.Nodes.faults c.args.nodes.now) (g.N.Nodes.endings c.args.nodes.now) (g.N.Nodes.endings c.args.nodes.now)) t.of.rounds t.of.config s (Some (g.O.Sink.written c.args.out.now)))
 
 pub returns-in-Err-clause-appended : goal.returns-in-Err-clause-appended
 returns-in-Err-clause-appended g c = λ w s far asks told begins unset.
-    inr (nothing_done (codes "s") w.of.log (IsBroken (g.N.Nodes.faults c.args.nodes.now) (g.N.Nodes.faults c.args.nodes.now) (g.N.Nodes.endings c.args.nodes.now) (g.N.Nodes.endings c.args.nodes.now)) (payloads_in w.batches (g.I.Source.left c.args.input.now)) w.of.rounds w.of.config s (g.O.Sink.written c.args.out.now))
+    inr (nothing_done (codes "s") w.of.log (IsBroken (g.N.Nodes.faults c.args.nodes.now) (g.N.Nodes.faults c.args.nodes.now) (g.N.Nodes.endings c.args.nodes.now) (g.N.Nodes.endings c.args.nodes.now)) (payloads_in w.batches (left_of (g.I.Source.known c.args.input.now) (g.I.Source.gave c.args.input.now))) w.of.rounds w.of.config s (Some (g.O.Sink.written c.args.out.now)))
 
 pub returns-in-Ok-Some-clause-off : goal.returns-in-Ok-Some-clause-off
 returns-in-Ok-Some-clause-off g c = λ asked asks drives.
@@ -111,3 +139,11 @@ returns-in-Ok-Some-clause-off g c = λ asked asks drives.
 
 pub returns-in-Ok-None-clause-off : goal.returns-in-Ok-None-clause-off
 returns-in-Ok-None-clause-off g c = λ asked asks drives. absurd (asked_none (map string_bytes c.args.words.now) c.in-Ok-None.field-0 asked c.in-Ok-None.field-0-is c.in-Ok-None.ensures.asks asks)
+
+pub returns-in-Ok-Some-clause-register : goal.returns-in-Ok-Some-clause-register
+returns-in-Ok-Some-clause-register g c = λ none.
+    c.carry_out.ensures.register (none c.in-Ok-Some.command (subst (λ (o : Option Command). MatchOption o (IsNoCommand (map string_bytes c.args.words.now)) (Asks (map string_bytes c.args.words.now))) c.in-Ok-Some.field-0-is c.in-Ok-Some.ensures.asks))
+
+pub returns-in-Ok-Some-clause-link : goal.returns-in-Ok-Some-clause-link
+returns-in-Ok-Some-clause-link g c = λ none.
+    c.carry_out.ensures.link (none c.in-Ok-Some.command (subst (λ (o : Option Command). MatchOption o (IsNoCommand (map string_bytes c.args.words.now)) (Asks (map string_bytes c.args.words.now))) c.in-Ok-Some.field-0-is c.in-Ok-Some.ensures.asks))

@@ -1,8 +1,10 @@
-use Rattle.std.proofs.Common.{ap, sym, ◌∙◌, subst, length, arith}
+use Rattle.ld_framed.specs.Reads.{ReadsWaiting}
+use Rattle.std.proofs.Common.{refl, ap, sym, ◌∙◌, subst, length, arith}
 use Rattle.std.proofs.lemmas.Result.{err_from_is_err_and}
 use Rattle.ld_wire.specs.Faults.{IsRefused}
 use Rattle.ld_wire.specs.Held.{kept_fault}
-use Rattle.ld_framed.proofs.Hearing.{fails_here, fails_on, judged, next_on, the_first}
+use Rattle.ld_framed.proofs.Waiting.{goes_on, itself}
+use Rattle.ld_framed.proofs.Hearing.{fails_here, fails_on, judged, next_on, the_first, untouched_at}
 use Rattle.ld_framed.proofs.input.next_frame.Goals as goal
 
 pub returns-in-Err-clause-heard : goal.returns-in-Err-clause-heard
@@ -33,6 +35,7 @@ pieces-preserved g c =
       c.in_ok-fill.ensures.fault ∙ ap (λ h. h.fault) same ∙ c.pieces.invariant.1,
       c.in_ok-fill.ensures.len ∙ c.pieces.invariant.2,
       c.in_ok-fill.ensures.counts ∙ c.pieces.invariant.3,
+      goes_on _ _ _ _ _ c.pieces.decoder c.take.new.self c.pieces.invariant.1 same none.0 c.pieces.invariant.4 c.in_ok-fill.ensures.once,
     )
 
 pub returns-in-Err-clause-cause : goal.returns-in-Err-clause-cause
@@ -56,3 +59,11 @@ returns-in_err-fill-clause-fault g c =
     let p = err_from_is_err_and c.from_residual.result c.from_residual.ensures.1 in
     let none = rw c.in-Ok-None.field-0-is at c.in-Ok-None.ensures.none in
     rw (p.1, p.2) (c.in_err-fill.ensures.fault ∙ ap (λ h. h.fault) none.1 ∙ c.pieces.invariant.1 ∙ sym c.in_err-fill.ensures.no_frame)
+
+pub pieces-init : goal.pieces-init
+pieces-init g c = (untouched_at _ _ c.args.decoder.now.bytes (itself _), c.requires.fine, refl, refl, ReadsWaiting.none)
+
+pub returns-then-not-branch-clause-waiting : goal.returns-then-not-branch-clause-waiting
+returns-then-not-branch-clause-waiting g c =
+    let none = rw c.in-Ok-None.field-0-is at c.in-Ok-None.ensures.none in
+    goes_on _ _ _ _ _ c.pieces.decoder c.take.new.self c.pieces.invariant.1 none.1 none.0 c.pieces.invariant.4 c.in_ok-fill.ensures.once

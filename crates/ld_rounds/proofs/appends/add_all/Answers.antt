@@ -14,7 +14,7 @@ use Rattle.ld_rounds.proofs.appends.add_all.Goals as goal
 pub payloads-init : goal.payloads-init
 payloads-init g c = (
   λ own k first s far b h. let i = upcoming c.args.feed.now.held (g.P.Payloads.coming c.args.input.now) in
-      went_here (driver c.args.name.now own) ⊥ k first b (Adds c.args.name.now k i i) (g.A.Actor.stands c.args.sequencer.now) (λ now. now ≡ far) s far c.args.queues.now (g.O.Sink.written c.args.out.now) (tt, feeds_here k i s) refl h,
+      went_here (driver c.args.name.now own) ⊥ k first b (Adds c.args.name.now k i i) (g.A.Actor.stands c.args.sequencer.now) (λ now. now ≡ far) s far c.args.queues.now (Some (g.O.Sink.written c.args.out.now)) (tt, feeds_here k i s) refl h,
   later_here _ _,
   omega arith,
   refl,
@@ -31,7 +31,7 @@ returns-in_err-payload-clause-held g c own k first s far b h =
     let i = upcoming c.args.feed.now.held (g.P.Payloads.coming c.args.input.now) in
     let j = upcoming c.payloads.feed.held (g.P.Payloads.coming c.payloads.input) in
     let e = c.in_err-payload.field-0.0 in
-    rw (p.1, p.2) (input_stops (driver c.args.name.now own) ⊥ k first b (Adds name k i j) (AddsUntil name k i) (g.A.Actor.stands c.payloads.sequencer) (λ now. now ≡ far) s c.payloads.queues (g.O.Sink.written c.args.out.now) (g.O.Sink.written c.payloads.out) e (input_unframed _ _ _ e c.in_err-payload.ensures.cause)
+    rw (p.1, p.2) (input_stops (driver c.args.name.now own) ⊥ k first b (Adds name k i j) (AddsUntil name k i) (g.A.Actor.stands c.payloads.sequencer) (λ now. now ≡ far) s c.payloads.queues (Some (g.O.Sink.written c.args.out.now)) (Some (g.O.Sink.written c.payloads.out)) e (input_unframed _ _ _ e c.in_err-payload.ensures.cause)
     (λ es x. (x.0, until_end k i j e s es x.1 (input_until k j _ e _ _ _ _ c.in_err-payload.ensures.gives c.in_err-payload.ensures.cause))) (c.payloads.invariant.0 own k first s far b h))
 
 pub returns-in_default-clause-held : goal.returns-in_default-clause-held
@@ -41,7 +41,7 @@ returns-in_default-clause-held g c own k first s far b h =
     let j = upcoming c.payloads.feed.held (g.P.Payloads.coming c.payloads.input) in
     let m = upcoming c.next.new.self.held (g.P.Payloads.coming c.next.new.input) in
     let w = c.payloads.invariant.0 own k first s far b h in
-    went_such (driver c.args.name.now own) ⊥ k first b ⊥ (Adds name k i j) (Adds name k i m) (g.A.Actor.stands c.payloads.sequencer) (λ now. now ≡ far) (λ now. now ≡ far) s c.payloads.queues (g.O.Sink.written c.args.out.now) (g.O.Sink.written c.payloads.out) (λ x. x) (λ f t. t) w
+    went_such (driver c.args.name.now own) ⊥ k first b ⊥ (Adds name k i j) (Adds name k i m) (g.A.Actor.stands c.payloads.sequencer) (λ now. now ≡ far) (λ now. now ≡ far) s c.payloads.queues (Some (g.O.Sink.written c.args.out.now)) (Some (g.O.Sink.written c.payloads.out)) (λ x. x) (λ f t. t) w
     (λ es o x. (x.0, feeds_end k i j m s es x.1 (none_fed k j m _ (subst (λ o. NextIs j m (Ok o)) c.in_default.is c.in_ok-payload.ensures.gives))))
 
 pub returns-in_err-add-clause-held : goal.returns-in_err-add-clause-held
@@ -55,7 +55,7 @@ returns-in_err-add-clause-held g c own k first s far b h =
     let m = upcoming c.next.new.self.held (g.P.Payloads.coming c.next.new.input) in
     let e = c.in_err-add.field-0.0 in
     let one = IsOne (Append name payload) in
-    rw (p.1, p.2) (apart_on (driver c.args.name.now own) ⊥ k first b {R = Bool} (Adds name k i j) one (Splits (Adds name k i j) one k) (λ e. IsBegun (Append name payload)) (AddsUntil name k i) (g.A.Actor.stands c.payloads.sequencer) (g.A.Actor.stands c.add.new.sequencer) s far c.payloads.queues c.add.new.queues (g.O.Sink.written c.args.out.now) (g.O.Sink.written c.payloads.out) (g.O.Sink.written c.add.new.out) (Err e)
+    rw (p.1, p.2) (apart_on (driver c.args.name.now own) ⊥ k first b {R = Bool} (Adds name k i j) one (Splits (Adds name k i j) one k) (λ e. IsBegun (Append name payload)) (AddsUntil name k i) (g.A.Actor.stands c.payloads.sequencer) (g.A.Actor.stands c.add.new.sequencer) s far c.payloads.queues c.add.new.queues (Some (g.O.Sink.written c.args.out.now)) (Some (g.O.Sink.written c.payloads.out)) (Some (g.O.Sink.written c.add.new.out)) (Err e)
     (splits_join k (Adds name k i j) one)
     (λ t es fs x y. (appends_join k name t es fs x.0 (begun_appends k name payload (state_after k t es) fs y), until_join k i j e t es fs x.1 (one_until k j m name payload e (state_after k t es) fs (subst (λ o. NextIs j m (Ok o)) c.in-Some.is c.in_ok-payload.ensures.gives) (partly _ _ _ _ e c.in_err-add.ensures.cause) y))) w
     (c.in_err-add.ensures.held own k first w.moved.state w.far b w.moved.holds))
@@ -69,7 +69,7 @@ returns-then-branch-clause-held g c own k first s far b h =
     let j = upcoming c.payloads.feed.held (g.P.Payloads.coming c.payloads.input) in
     let coming = g.P.Payloads.coming c.next.new.input in
     let gives = subst (λ o. NextIs j (upcoming o coming) (Ok (Some payload))) c.in_ok-payload.ensures.none (subst (λ o. NextIs j (upcoming c.next.new.self.held coming) (Ok o)) c.in-Some.is c.in_ok-payload.ensures.gives) in
-    apart_on (driver c.args.name.now own) ⊥ k first b {R = Bool} (Adds name k i j) (λ t es. IsOne (Append name payload) t es × (taken_of k t es ≡ (if c.in_ok-add.field-0 then [] else payload ∷ []))) (Adds name k i (upcoming (Some payload) coming)) (λ e. IsBegun (Append name payload)) (AddsUntil name k i) (g.A.Actor.stands c.payloads.sequencer) (g.A.Actor.stands c.add.new.sequencer) s far c.payloads.queues c.add.new.queues (g.O.Sink.written c.args.out.now) (g.O.Sink.written c.payloads.out) (g.O.Sink.written c.add.new.out) (Ok true)
+    apart_on (driver c.args.name.now own) ⊥ k first b {R = Bool} (Adds name k i j) (λ t es. IsOne (Append name payload) t es × (taken_of k t es ≡ (if c.in_ok-add.field-0 then [] else payload ∷ []))) (Adds name k i (upcoming (Some payload) coming)) (λ e. IsBegun (Append name payload)) (AddsUntil name k i) (g.A.Actor.stands c.payloads.sequencer) (g.A.Actor.stands c.add.new.sequencer) s far c.payloads.queues c.add.new.queues (Some (g.O.Sink.written c.args.out.now)) (Some (g.O.Sink.written c.payloads.out)) (Some (g.O.Sink.written c.add.new.out)) (Ok true)
     (λ t es fs x y. (appends_join k name t es fs x.0 (begun_appends k name payload (state_after k t es) fs (inr y.0)), feeds_join k i j (upcoming (Some payload) coming) t es fs x.1 (held_fed k j coming payload (state_after k t es) fs gives (y.1 ∙ ap (λ (x : Bool). if x then [] else payload ∷ []) c.if-branch.true)))) tt w
     (c.in_ok-add.ensures.held own k first w.moved.state w.far b w.moved.holds)
 
@@ -82,7 +82,7 @@ payloads-preserved g c = (
       let j = upcoming c.payloads.feed.held (g.P.Payloads.coming c.payloads.input) in
       let m = upcoming c.next.new.self.held (g.P.Payloads.coming c.next.new.input) in
       let gives = subst (λ o. NextIs j m (Ok o)) c.in-Some.is c.in_ok-payload.ensures.gives in
-      apart_on (driver c.args.name.now own) ⊥ k first b {R = Bool} (Adds name k i j) (λ t es. IsOne (Append name payload) t es × (taken_of k t es ≡ (if c.in_ok-add.field-0 then [] else payload ∷ []))) (Adds name k i m) (λ e. IsBegun (Append name payload)) (AddsUntil name k i) (g.A.Actor.stands c.payloads.sequencer) (g.A.Actor.stands c.add.new.sequencer) s far c.payloads.queues c.add.new.queues (g.O.Sink.written c.args.out.now) (g.O.Sink.written c.payloads.out) (g.O.Sink.written c.add.new.out) (Ok false)
+      apart_on (driver c.args.name.now own) ⊥ k first b {R = Bool} (Adds name k i j) (λ t es. IsOne (Append name payload) t es × (taken_of k t es ≡ (if c.in_ok-add.field-0 then [] else payload ∷ []))) (Adds name k i m) (λ e. IsBegun (Append name payload)) (AddsUntil name k i) (g.A.Actor.stands c.payloads.sequencer) (g.A.Actor.stands c.add.new.sequencer) s far c.payloads.queues c.add.new.queues (Some (g.O.Sink.written c.args.out.now)) (Some (g.O.Sink.written c.payloads.out)) (Some (g.O.Sink.written c.add.new.out)) (Ok false)
       (λ t es fs x y. (appends_join k name t es fs x.0 (begun_appends k name payload (state_after k t es) fs (inr y.0)), feeds_join k i j m t es fs x.1 (one_fed k j m payload (state_after k t es) fs gives (y.1 ∙ ap (λ (x : Bool). if x then [] else payload ∷ []) c.if-branch.false)))) tt w
       (c.in_ok-add.ensures.held own k first w.moved.state w.far b w.moved.holds),
   later_on _ _ _ _ _ _ c.payloads.invariant.1 c.in_ok-add.ensures.later,
@@ -113,7 +113,7 @@ returns-then-branch-clause-later g c = later_on _ _ _ _ _ _ c.payloads.invariant
 pub returns-then-feed-clause-held : goal.returns-then-feed-clause-held
 returns-then-feed-clause-held g c own k first s far b h =
     let i = upcoming c.args.feed.now.held (g.P.Payloads.coming c.args.input.now) in
-    went_here (driver c.args.name.now own) ⊥ k first b (Adds c.args.name.now k i i) (g.A.Actor.stands c.args.sequencer.now) (λ now. now ≡ far) s far c.args.queues.now (g.O.Sink.written c.args.out.now) (tt, feeds_here k i s) refl h
+    went_here (driver c.args.name.now own) ⊥ k first b (Adds c.args.name.now k i i) (g.A.Actor.stands c.args.sequencer.now) (λ now. now ≡ far) s far c.args.queues.now (Some (g.O.Sink.written c.args.out.now)) (tt, feeds_here k i s) refl h
 
 pub returns-then-feed-clause-behind : goal.returns-then-feed-clause-behind
 returns-then-feed-clause-behind g c = same_here _

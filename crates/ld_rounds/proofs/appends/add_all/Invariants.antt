@@ -1,4 +1,4 @@
-use Rattle.std.proofs.Common.{◌≡◌, ◌≤◌, ℕ, false}
+use Rattle.std.proofs.Common.{◌≡◌, ◌≤◌, ℕ, false, Some}
 use Rattle.ld_config.specs.declared.config.Config.{Config}
 use Rattle.ld_config.specs.Bounds.{IsInBounds}
 use Rattle.ld_machine.specs.State.{State}
@@ -13,8 +13,8 @@ use Rattle.ld_rounds.proofs.appends.add_all.Given as goal
 abbrev pub invariant-payloads : goal.invariant-payloads
 invariant-payloads g l =
     ((own : Own) (c : Config) (first : ℕ) (s : State) (far : Far) → IsInBounds c → Holds (g.A.Actor.stands l.fn.sequencer) c first s far l.fn.queues
-    → Went (driver l.name own) ⊥ (Adds l.name c (upcoming l.fn.feed.held (g.P.Payloads.coming l.fn.input)) (upcoming l.feed.held (g.P.Payloads.coming l.input))) (g.A.Actor.stands l.sequencer) (λ now. now ≡ far) c first s l.queues (g.O.Sink.written l.fn.out) (g.O.Sink.written l.out))
-    × IsLater (g.O.Sink.faults l.fn.out) (g.O.Sink.faults l.out) (g.O.Sink.written l.fn.out) (g.O.Sink.written l.out)
+    → Went (driver l.name own) ⊥ (Adds l.name c (upcoming l.fn.feed.held (g.P.Payloads.coming l.fn.input)) (upcoming l.feed.held (g.P.Payloads.coming l.input))) (g.A.Actor.stands l.sequencer) (λ now. now ≡ far) c first s l.queues (Some (g.O.Sink.written l.fn.out)) (Some (g.O.Sink.written l.out)))
+    × IsLater (g.O.Sink.faults l.fn.out) (g.O.Sink.faults l.out) (Some (g.O.Sink.written l.fn.out)) (Some (g.O.Sink.written l.out))
     × (g.P.Payloads.faults l.fn.input ≤ g.P.Payloads.faults l.input)
     × (g.P.Payloads.identity l.input ≡ g.P.Payloads.identity l.fn.input)
     × (l.feed.is_over ≡ false)

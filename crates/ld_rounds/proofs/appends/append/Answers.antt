@@ -1,4 +1,4 @@
-use Rattle.std.proofs.Common.{◌≡◌, ◌∙◌, ◌+◌, ◌==◌, ◌++◌, ℕ, [], sym, subst, refl, inl, inr, ⊎_elim, Ok, Err, true, arith}
+use Rattle.std.proofs.Common.{◌≡◌, ◌∙◌, ◌+◌, ◌==◌, ◌++◌, ℕ, [], sym, subst, refl, inl, inr, ⊎_elim, Ok, Err, true, arith, Some}
 use Rattle.std.proofs.lemmas.Result.{err_from_is_err_and}
 use Rattle.ld_ids.specs.Set.{members}
 use Rattle.ld_rounds.specs.declared.ended.Ended.TheVariants as ends
@@ -15,7 +15,7 @@ use Rattle.ld_rounds.proofs.appends.append.Goals as goal
 
 pub rounds-init : goal.rounds-init
 rounds-init g c = (
-  λ k first s far b there told h. inr (went_here (driver c.args.name.now (g.A.Actor.own c.args.sequencer.now)) (IsBroken (g.N.Nodes.faults c.args.nodes.now) (g.N.Nodes.faults c.args.nodes.now) (g.N.Nodes.endings c.args.nodes.now) (g.N.Nodes.endings c.args.nodes.now)) k first b (Both (AreAppendRounds c.args.name.now k first (members c.args.set.now) 0) (Feeds k (g.P.Payloads.coming c.args.input.now) (upcoming c.new-feed.result.held (g.P.Payloads.coming c.args.input.now)))) (g.A.Actor.stands c.args.sequencer.now) (AllTaken (g.N.Nodes.tells c.args.nodes.now k)) s far c.args.queues.now (g.O.Sink.written c.args.out.now) (refl, subst (λ o. Feeds k (g.P.Payloads.coming c.args.input.now) (upcoming o (g.P.Payloads.coming c.args.input.now)) s []) (sym c.new-feed.ensures.held) (feeds_here k (g.P.Payloads.coming c.args.input.now) s)) told h),
+  λ k first s far b there told h. inr (went_here (driver c.args.name.now (g.A.Actor.own c.args.sequencer.now)) (IsBroken (g.N.Nodes.faults c.args.nodes.now) (g.N.Nodes.faults c.args.nodes.now) (g.N.Nodes.endings c.args.nodes.now) (g.N.Nodes.endings c.args.nodes.now)) k first b (Both (AreAppendRounds c.args.name.now k first (members c.args.set.now) 0) (Feeds k (g.P.Payloads.coming c.args.input.now) (upcoming c.new-feed.result.held (g.P.Payloads.coming c.args.input.now)))) (g.A.Actor.stands c.args.sequencer.now) (AllTaken (g.N.Nodes.tells c.args.nodes.now k)) s far c.args.queues.now (Some (g.O.Sink.written c.args.out.now)) (refl, subst (λ o. Feeds k (g.P.Payloads.coming c.args.input.now) (upcoming o (g.P.Payloads.coming c.args.input.now)) s []) (sym c.new-feed.ensures.held) (feeds_here k (g.P.Payloads.coming c.args.input.now) s)) told h),
   later_here _ _,
   (omega arith, omega arith),
   omega arith,
@@ -30,7 +30,7 @@ pub returns-in_err-append_round-clause-held : goal.returns-in_err-append_round-c
 returns-in_err-append_round-clause-held g c k first s far b there told h =
     let p = err_from_is_err_and c.from_residual.result c.from_residual.ensures.1 in
     rw (p.1, p.2) (turned 0 c.args.rounds c.rounds.number (omega arith) (omega arith) (then_on (driver c.args.name.now (g.A.Actor.own c.args.sequencer.now)) (IsBroken (g.N.Nodes.faults c.args.nodes.now) (g.N.Nodes.faults c.append_round.new.nodes) (g.N.Nodes.endings c.args.nodes.now) (g.N.Nodes.endings c.append_round.new.nodes)) k first b {R = Unit {0}} (Both (AreAppendRounds c.args.name.now k first (members c.args.set.now) c.rounds.number) (Feeds k (g.P.Payloads.coming c.args.input.now) (upcoming c.rounds.feed.held (g.P.Payloads.coming c.rounds.input)))) (Rounds c.args.name.now k first (members c.args.set.now) (c.rounds.number == 0) (upcoming c.rounds.feed.held (g.P.Payloads.coming c.rounds.input)) (upcoming c.append_round.new.feed.held (g.P.Payloads.coming c.append_round.new.input))) (Both (AreAppendRounds c.args.name.now k first (members c.args.set.now) (c.rounds.number + 1)) (Feeds k (g.P.Payloads.coming c.args.input.now) (upcoming c.append_round.new.feed.held (g.P.Payloads.coming c.append_round.new.input)))) (RoundsUntil c.args.name.now k (c.rounds.number == 0) (upcoming c.rounds.feed.held (g.P.Payloads.coming c.rounds.input))) (λ e. AppendsUntil c.args.name.now k first (members c.args.set.now) (g.P.Payloads.coming c.args.input.now) e c.rounds.number) (IsBroken (g.N.Nodes.faults c.args.nodes.now) (g.N.Nodes.faults c.rounds.nodes) (g.N.Nodes.endings c.args.nodes.now) (g.N.Nodes.endings c.rounds.nodes)) (IsBroken (g.N.Nodes.faults c.rounds.nodes) (g.N.Nodes.faults c.append_round.new.nodes) (g.N.Nodes.endings c.rounds.nodes) (g.N.Nodes.endings c.append_round.new.nodes)) (g.N.Nodes.silent c.rounds.nodes ≡ true) (g.N.Nodes.silent c.append_round.new.nodes ≡ true) (g.A.Actor.stands c.rounds.sequencer) (g.A.Actor.stands c.append_round.new.sequencer) (AllTaken (g.N.Nodes.tells c.rounds.nodes k)) (AllTaken (g.N.Nodes.tells c.append_round.new.nodes k)) s
-    c.rounds.queues c.append_round.new.queues (g.O.Sink.written c.args.out.now) (g.O.Sink.written c.rounds.out) (g.O.Sink.written c.append_round.new.out) (Err c.in_err-append_round.field-0.0)
+    c.rounds.queues c.append_round.new.queues (Some (g.O.Sink.written c.args.out.now)) (Some (g.O.Sink.written c.rounds.out)) (Some (g.O.Sink.written c.append_round.new.out)) (Err c.in_err-append_round.field-0.0)
     (λ t es fs x y. (append_more k c.args.name.now first (members c.args.set.now) c.rounds.number t es fs x.0 y.0, feeds_join k (g.P.Payloads.coming c.args.input.now) (upcoming c.rounds.feed.held (g.P.Payloads.coming c.rounds.input)) (upcoming c.append_round.new.feed.held (g.P.Payloads.coming c.append_round.new.input)) t es fs x.1 y.1))
     (λ t es fs x y. (record { front = es; rest = fs; whole = refl; came = x.0; goes = y.0 }, until_join k (g.P.Payloads.coming c.args.input.now) (upcoming c.rounds.feed.held (g.P.Payloads.coming c.rounds.input)) c.in_err-append_round.field-0.0 t es fs x.1 y.1)) (broken_until _ _ _ _ _ _ c.in_err-append_round.ensures.counts) (broken_since _ _ _ _ _ _ c.rounds.invariant.2)
     c.in_err-append_round.ensures.silent
@@ -45,7 +45,7 @@ returns-in_err-append_round-clause-cause g c =
 pub returns-then-are_empty-clause-held : goal.returns-then-are_empty-clause-held
 returns-then-are_empty-clause-held g c k first s far b there told h =
     turned 1 (c.args.rounds + 1) (c.rounds.number + 1) (omega arith) (omega arith) (then_on (driver c.args.name.now (g.A.Actor.own c.args.sequencer.now)) (IsBroken (g.N.Nodes.faults c.args.nodes.now) (g.N.Nodes.faults c.append_round.new.nodes) (g.N.Nodes.endings c.args.nodes.now) (g.N.Nodes.endings c.append_round.new.nodes)) k first b {R = Unit {0}} (Both (AreAppendRounds c.args.name.now k first (members c.args.set.now) c.rounds.number) (Feeds k (g.P.Payloads.coming c.args.input.now) (upcoming c.rounds.feed.held (g.P.Payloads.coming c.rounds.input)))) (Rounds c.args.name.now k first (members c.args.set.now) (c.rounds.number == 0) (upcoming c.rounds.feed.held (g.P.Payloads.coming c.rounds.input)) (upcoming c.append_round.new.feed.held (g.P.Payloads.coming c.append_round.new.input))) (Appends c.args.name.now k first (members c.args.set.now) (g.P.Payloads.coming c.args.input.now) ends.Done (c.rounds.number + 1)) (RoundsUntil c.args.name.now k (c.rounds.number == 0) (upcoming c.rounds.feed.held (g.P.Payloads.coming c.rounds.input))) (λ e. AppendsUntil c.args.name.now k first (members c.args.set.now) (g.P.Payloads.coming c.args.input.now) e c.rounds.number) (IsBroken (g.N.Nodes.faults c.args.nodes.now) (g.N.Nodes.faults c.rounds.nodes) (g.N.Nodes.endings c.args.nodes.now) (g.N.Nodes.endings c.rounds.nodes)) (IsBroken (g.N.Nodes.faults c.rounds.nodes) (g.N.Nodes.faults c.append_round.new.nodes) (g.N.Nodes.endings c.rounds.nodes) (g.N.Nodes.endings c.append_round.new.nodes)) (g.N.Nodes.silent c.rounds.nodes ≡ true) (g.N.Nodes.silent c.append_round.new.nodes ≡ true) (g.A.Actor.stands c.rounds.sequencer) (g.A.Actor.stands c.append_round.new.sequencer) (AllTaken (g.N.Nodes.tells c.rounds.nodes k)) (AllTaken (g.N.Nodes.tells c.append_round.new.nodes k)) s
-    c.rounds.queues c.append_round.new.queues (g.O.Sink.written c.args.out.now) (g.O.Sink.written c.rounds.out) (g.O.Sink.written c.append_round.new.out) (Ok tt)
+    c.rounds.queues c.append_round.new.queues (Some (g.O.Sink.written c.args.out.now)) (Some (g.O.Sink.written c.rounds.out)) (Some (g.O.Sink.written c.append_round.new.out)) (Ok tt)
     (λ t es fs x y. (append_more k c.args.name.now first (members c.args.set.now) c.rounds.number t es fs x.0 y.0, feeds_done k (g.P.Payloads.coming c.args.input.now) (upcoming c.append_round.new.feed.held (g.P.Payloads.coming c.append_round.new.input)) t (es ++ fs) (none_upcoming _ _ _ c.if-feed.true (c.in_ok-append_round.ensures.over _ c.rounds.invariant.6 c.rounds.invariant.5)) (feeds_join k (g.P.Payloads.coming c.args.input.now) (upcoming c.rounds.feed.held (g.P.Payloads.coming c.rounds.input)) (upcoming c.append_round.new.feed.held (g.P.Payloads.coming c.append_round.new.input)) t es fs x.1 y.1)))
     tt (broken_until _ _ _ _ _ _ c.in_ok-append_round.ensures.counts) (broken_since _ _ _ _ _ _ c.rounds.invariant.2)
     c.in_ok-append_round.ensures.silent
@@ -55,7 +55,7 @@ returns-then-are_empty-clause-held g c k first s far b there told h =
 pub rounds-preserved : goal.rounds-preserved
 rounds-preserved g c = (
   λ k first s far b there told h. then_on (driver c.args.name.now (g.A.Actor.own c.args.sequencer.now)) (IsBroken (g.N.Nodes.faults c.args.nodes.now) (g.N.Nodes.faults c.append_round.new.nodes) (g.N.Nodes.endings c.args.nodes.now) (g.N.Nodes.endings c.append_round.new.nodes)) k first b {R = Unit {0}} (Both (AreAppendRounds c.args.name.now k first (members c.args.set.now) c.rounds.number) (Feeds k (g.P.Payloads.coming c.args.input.now) (upcoming c.rounds.feed.held (g.P.Payloads.coming c.rounds.input)))) (Rounds c.args.name.now k first (members c.args.set.now) (c.rounds.number == 0) (upcoming c.rounds.feed.held (g.P.Payloads.coming c.rounds.input)) (upcoming c.append_round.new.feed.held (g.P.Payloads.coming c.append_round.new.input))) (Both (AreAppendRounds c.args.name.now k first (members c.args.set.now) (c.rounds.number + 1)) (Feeds k (g.P.Payloads.coming c.args.input.now) (upcoming c.append_round.new.feed.held (g.P.Payloads.coming c.append_round.new.input)))) (RoundsUntil c.args.name.now k (c.rounds.number == 0) (upcoming c.rounds.feed.held (g.P.Payloads.coming c.rounds.input))) (λ e. AppendsUntil c.args.name.now k first (members c.args.set.now) (g.P.Payloads.coming c.args.input.now) e c.rounds.number) (IsBroken (g.N.Nodes.faults c.args.nodes.now) (g.N.Nodes.faults c.rounds.nodes) (g.N.Nodes.endings c.args.nodes.now) (g.N.Nodes.endings c.rounds.nodes)) (IsBroken (g.N.Nodes.faults c.rounds.nodes) (g.N.Nodes.faults c.append_round.new.nodes) (g.N.Nodes.endings c.rounds.nodes) (g.N.Nodes.endings c.append_round.new.nodes)) (g.N.Nodes.silent c.rounds.nodes ≡ true) (g.N.Nodes.silent c.append_round.new.nodes ≡ true) (g.A.Actor.stands c.rounds.sequencer) (g.A.Actor.stands c.append_round.new.sequencer) (AllTaken (g.N.Nodes.tells c.rounds.nodes k)) (AllTaken (g.N.Nodes.tells c.append_round.new.nodes k)) s
-      c.rounds.queues c.append_round.new.queues (g.O.Sink.written c.args.out.now) (g.O.Sink.written c.rounds.out) (g.O.Sink.written c.append_round.new.out) (Ok tt)
+      c.rounds.queues c.append_round.new.queues (Some (g.O.Sink.written c.args.out.now)) (Some (g.O.Sink.written c.rounds.out)) (Some (g.O.Sink.written c.append_round.new.out)) (Ok tt)
       (λ t es fs x y. (append_more k c.args.name.now first (members c.args.set.now) c.rounds.number t es fs x.0 y.0, feeds_join k (g.P.Payloads.coming c.args.input.now) (upcoming c.rounds.feed.held (g.P.Payloads.coming c.rounds.input)) (upcoming c.append_round.new.feed.held (g.P.Payloads.coming c.append_round.new.input)) t es fs x.1 y.1))
       tt (broken_until _ _ _ _ _ _ c.in_ok-append_round.ensures.counts) (broken_since _ _ _ _ _ _ c.rounds.invariant.2)
       c.in_ok-append_round.ensures.silent
@@ -75,7 +75,7 @@ pub returns-clause-held : goal.returns-clause-held
 returns-clause-held g c k first s far b there told h =
     let broken = IsBroken (g.N.Nodes.faults c.args.nodes.now) (g.N.Nodes.faults c.rounds.nodes) (g.N.Nodes.endings c.args.nodes.now) (g.N.Nodes.endings c.rounds.nodes) in
     let all : c.rounds.number ≡ c.args.rounds = omega arith in
-    ⊎_elim (λ quiet. inl quiet) (λ w. inr (went_such (driver c.args.name.now (g.A.Actor.own c.args.sequencer.now)) broken k first b broken (Both (AreAppendRounds c.args.name.now k first (members c.args.set.now) c.rounds.number) (Feeds k (g.P.Payloads.coming c.args.input.now) (upcoming c.rounds.feed.held (g.P.Payloads.coming c.rounds.input)))) (Appends c.args.name.now k first (members c.args.set.now) (g.P.Payloads.coming c.args.input.now) ends.Rounds c.args.rounds) (g.A.Actor.stands c.rounds.sequencer) (AllTaken (g.N.Nodes.tells c.rounds.nodes k)) (AllTaken (g.N.Nodes.tells c.rounds.nodes k)) s c.rounds.queues (g.O.Sink.written c.args.out.now) (g.O.Sink.written c.rounds.out) (λ l. l) (λ f t. t) w
+    ⊎_elim (λ quiet. inl quiet) (λ w. inr (went_such (driver c.args.name.now (g.A.Actor.own c.args.sequencer.now)) broken k first b broken (Both (AreAppendRounds c.args.name.now k first (members c.args.set.now) c.rounds.number) (Feeds k (g.P.Payloads.coming c.args.input.now) (upcoming c.rounds.feed.held (g.P.Payloads.coming c.rounds.input)))) (Appends c.args.name.now k first (members c.args.set.now) (g.P.Payloads.coming c.args.input.now) ends.Rounds c.args.rounds) (g.A.Actor.stands c.rounds.sequencer) (AllTaken (g.N.Nodes.tells c.rounds.nodes k)) (AllTaken (g.N.Nodes.tells c.rounds.nodes k)) s c.rounds.queues (Some (g.O.Sink.written c.args.out.now)) (Some (g.O.Sink.written c.rounds.out)) (λ l. l) (λ f t. t) w
     (λ es o x. (subst (λ (n : ℕ). AreAppendRounds c.args.name.now k first (members c.args.set.now) n s es) all x.0, feeds_until k (g.P.Payloads.coming c.args.input.now) (upcoming c.rounds.feed.held (g.P.Payloads.coming c.rounds.input)) ends.Rounds s es tt x.1))))
     (c.rounds.invariant.0 k first s far b there told h)
 

@@ -1,4 +1,4 @@
-use Rattle.std.proofs.Common.{◌≡◌, refl, inr, arith, Err, [], true, false}
+use Rattle.std.proofs.Common.{◌≡◌, refl, inr, arith, Err, [], true, false, Some}
 use Rattle.std.proofs.lemmas.Result.{err_from_is_err_and}
 use Rattle.ld_rounds.specs.Feeding.{upcoming}
 use Rattle.ld_rounds.specs.Acts.{driver}
@@ -14,7 +14,7 @@ returns-then-is_first-clause-held g c own k first s far b h =
     let name = c.args.name.now in
     let i = upcoming c.args.feed.now.held (g.P.Payloads.coming c.args.input.now) in
     let j = upcoming c.add_all.new.feed.held (g.P.Payloads.coming c.add_all.new.input) in
-    rw c.if-is_first.true (goes_such (driver c.args.name.now own) ⊥ k first b {R = Unit {0}} (Adds name k i j) (Prepares name k true i j) (AddsUntil name k i) (PreparesUntil name k true i) ⊥ (g.A.Actor.stands c.add_all.new.sequencer) (λ now. now ≡ far) (λ now. now ≡ far) s c.add_all.new.queues (g.O.Sink.written c.args.out.now) (g.O.Sink.written c.add_all.new.out) c.add_all.result (λ x. x) (λ f t. t)
+    rw c.if-is_first.true (goes_such (driver c.args.name.now own) ⊥ k first b {R = Unit {0}} (Adds name k i j) (Prepares name k true i j) (AddsUntil name k i) (PreparesUntil name k true i) ⊥ (g.A.Actor.stands c.add_all.new.sequencer) (λ now. now ≡ far) (λ now. now ≡ far) s c.add_all.new.queues (Some (g.O.Sink.written c.args.out.now)) (Some (g.O.Sink.written c.add_all.new.out)) c.add_all.result (λ x. x) (λ f t. t)
     (λ es x. (record { front = []; rest = es; whole = refl; came = refl; goes = x.0 }, x.1)) (each_end c.add_all.result (λ e es x. (record { front = []; rest = es; whole = refl; came = refl; goes = x.0 }, x.1)))
     (c.add_all.ensures.held own k first s far b h))
 
@@ -24,7 +24,7 @@ returns-in_err-again-clause-held g c own k first s far b h =
     let name = c.args.name.now in
     let i = upcoming c.args.feed.now.held (g.P.Payloads.coming c.args.input.now) in
     let e = c.in_err-again.field-0.0 in
-    rw (p.1, p.2, c.if-is_first.false) (goes_such (driver c.args.name.now own) ⊥ k first b {R = Unit {0}} (IsRetry name false) (IsRetry name false) (λ e. MayRetry name false) (PreparesUntil name k false i) ⊥ (g.A.Actor.stands c.again.new.sequencer) (λ now. now ≡ far) (λ now. now ≡ far) s c.again.new.queues (g.O.Sink.written c.args.out.now) (g.O.Sink.written c.again.new.out) (Err e) (λ x. x) (λ f t. t)
+    rw (p.1, p.2, c.if-is_first.false) (goes_such (driver c.args.name.now own) ⊥ k first b {R = Unit {0}} (IsRetry name false) (IsRetry name false) (λ e. MayRetry name false) (PreparesUntil name k false i) ⊥ (g.A.Actor.stands c.again.new.sequencer) (λ now. now ≡ far) (λ now. now ≡ far) s c.again.new.queues (Some (g.O.Sink.written c.args.out.now)) (Some (g.O.Sink.written c.again.new.out)) (Err e) (λ x. x) (λ f t. t)
     (λ es x. x) (λ es x. (splits_end k (MayRetry name false) (AreAppends name) s es x tt, feeds_until k i i e s es (partly _ _ _ _ e c.in_err-again.ensures.cause) (retry_feeds k i name false s es x)))
     (c.in_err-again.ensures.held own k first s far b h))
 
@@ -39,7 +39,7 @@ returns-clause-held g c own k first s far b h =
     let i = upcoming c.args.feed.now.held (g.P.Payloads.coming c.args.input.now) in
     let j = upcoming c.add_all-2.new.feed.held (g.P.Payloads.coming c.add_all-2.new.input) in
     let w = c.in_ok-again.ensures.held own k first s far b h in
-    rw c.if-is_first.false (apart_on (driver c.args.name.now own) ⊥ k first b {R = Unit {0}} (IsRetry name false) (Adds name k i j) (Prepares name k false i j) (AddsUntil name k i) (PreparesUntil name k false i) (g.A.Actor.stands c.again.new.sequencer) (g.A.Actor.stands c.add_all-2.new.sequencer) s far c.again.new.queues c.add_all-2.new.queues (g.O.Sink.written c.args.out.now) (g.O.Sink.written c.again.new.out) (g.O.Sink.written c.add_all-2.new.out) c.add_all-2.result
+    rw c.if-is_first.false (apart_on (driver c.args.name.now own) ⊥ k first b {R = Unit {0}} (IsRetry name false) (Adds name k i j) (Prepares name k false i j) (AddsUntil name k i) (PreparesUntil name k false i) (g.A.Actor.stands c.again.new.sequencer) (g.A.Actor.stands c.add_all-2.new.sequencer) s far c.again.new.queues c.add_all-2.new.queues (Some (g.O.Sink.written c.args.out.now)) (Some (g.O.Sink.written c.again.new.out)) (Some (g.O.Sink.written c.add_all-2.new.out)) c.add_all-2.result
     (λ t es fs x y. (record { front = es; rest = fs; whole = refl; came = x; goes = y.0 }, feeds_join k i i j t es fs (retry_feeds k i name false t es (inr x)) y.1))
     (each_end c.add_all-2.result (λ e t es fs x y. (record { front = es; rest = fs; whole = refl; came = inr x; goes = y.0 }, until_join k i i e t es fs (retry_feeds k i name false t es (inr x)) y.1))) w
     (c.add_all-2.ensures.held own k first w.moved.state w.far b w.moved.holds))

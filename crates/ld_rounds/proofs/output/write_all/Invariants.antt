@@ -1,11 +1,11 @@
-use Rattle.std.proofs.Common.{◌≡◌, ◌≤◌, ◌-◌, take, length}
+use Rattle.std.proofs.Common.{◌≡◌, ◌≤◌, ◌-◌, take, length, Some}
 use Rattle.std.specs.Io.KnownBytes.{Appends}
 use Rattle.ld_rounds.proofs.output.write_all.Given as goal
 
 abbrev pub invariant-loop-done : goal.invariant-loop-done
 invariant-loop-done g l =
     (l.done ≤ length l.bytes)
-    × Appends (g.O.Sink.written l.fn.out) (g.O.Sink.written l.out) (take l.done l.bytes)
+    × Appends (Some (g.O.Sink.written l.fn.out)) (Some (g.O.Sink.written l.out)) (take l.done l.bytes)
     × (g.O.Sink.faults l.out ≡ g.O.Sink.faults l.fn.out)
 
 abbrev pub decreases-loop-done : goal.decreases-loop-done

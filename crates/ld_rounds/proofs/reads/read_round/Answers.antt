@@ -1,4 +1,4 @@
-use Rattle.std.proofs.Common.{◌≡◌, ◌⊎◌, ◌∙◌, [], refl, sym, subst, inr, Err, true}
+use Rattle.std.proofs.Common.{◌≡◌, ◌⊎◌, ◌∙◌, [], refl, sym, subst, inr, Err, true, Some}
 use Rattle.std.proofs.lemmas.Result.{err_from_is_err_and}
 use Rattle.ld_ids.specs.Set.{members}
 use Rattle.ld_rounds.specs.Acts.{driver}
@@ -17,7 +17,7 @@ returns-in_err-begin-clause-held g c own is k first s far b there told h =
     let T = AllTaken (g.N.Nodes.tells c.args.nodes.now k) in
     let name = c.args.name.now in
     let P = IsPolled c.args.is_sparing name first (members c.args.set.now) in
-    rw (p.1, p.2) (inr (goes_such (driver c.args.name.now own) (IsBroken (g.N.Nodes.faults c.args.nodes.now) (g.N.Nodes.faults c.args.nodes.now) (g.N.Nodes.endings c.args.nodes.now) (g.N.Nodes.endings c.args.nodes.now)) k first b {R = Unit {0}} P P (λ e t es. (es ≡ []) ⊎ P t es) (λ e. IsReadPart c.args.is_sparing name k first (members c.args.set.now)) ⊥ B (λ now. now ≡ far) T s c.begin.new.queues (g.O.Sink.written c.args.out.now) (g.O.Sink.written c.begin.new.out) (Err c.in_err-begin.field-0.0) (λ x. absurd x) (λ f e. subst T (sym e) told)
+    rw (p.1, p.2) (inr (goes_such (driver c.args.name.now own) (IsBroken (g.N.Nodes.faults c.args.nodes.now) (g.N.Nodes.faults c.args.nodes.now) (g.N.Nodes.endings c.args.nodes.now) (g.N.Nodes.endings c.args.nodes.now)) k first b {R = Unit {0}} P P (λ e t es. (es ≡ []) ⊎ P t es) (λ e. IsReadPart c.args.is_sparing name k first (members c.args.set.now)) ⊥ B (λ now. now ≡ far) T s c.begin.new.queues (Some (g.O.Sink.written c.args.out.now)) (Some (g.O.Sink.written c.begin.new.out)) (Err c.in_err-begin.field-0.0) (λ x. absurd x) (λ f e. subst T (sym e) told)
     (λ es x. x) (λ es x. part_begun k c.args.is_sparing name first (members c.args.set.now) s es x) (c.in_err-begin.ensures.held own k first s far b there h)))
 
 pub returns-clause-held : goal.returns-clause-held
@@ -30,8 +30,8 @@ returns-clause-held g c own is k first s far b there told h =
     let ys = members c.args.set.now in
     let P = IsPolled c.args.is_sparing name first ys in
     let broken = IsBroken (g.N.Nodes.faults c.args.nodes.now) (g.N.Nodes.faults c.round.new.nodes) (g.N.Nodes.endings c.args.nodes.now) (g.N.Nodes.endings c.round.new.nodes) in
-    let w = went_as (driver c.args.name.now own) broken k first b P ⊥ B (λ now. now ≡ far) T s c.begin.new.queues (g.O.Sink.written c.args.out.now) (g.O.Sink.written c.begin.new.out) (λ x. absurd x) (λ f e. subst T (sym e) told) (c.in_ok-begin.ensures.held own k first s far b there h) in
-    then_on (driver c.args.name.now own) broken k first b {R = Unit {0}} P (AreVisits k first ys) (IsReadRound c.args.is_sparing name k first ys) (CalmEnd k) (λ e. IsReadPart c.args.is_sparing name k first ys) broken broken (g.N.Nodes.silent c.round.new.nodes ≡ true) (g.N.Nodes.silent c.round.new.nodes ≡ true) B C T U s c.begin.new.queues c.round.new.queues (g.O.Sink.written c.args.out.now) (g.O.Sink.written c.begin.new.out) (g.O.Sink.written c.round.new.out) c.round.result
+    let w = went_as (driver c.args.name.now own) broken k first b P ⊥ B (λ now. now ≡ far) T s c.begin.new.queues (Some (g.O.Sink.written c.args.out.now)) (Some (g.O.Sink.written c.begin.new.out)) (λ x. absurd x) (λ f e. subst T (sym e) told) (c.in_ok-begin.ensures.held own k first s far b there h) in
+    then_on (driver c.args.name.now own) broken k first b {R = Unit {0}} P (AreVisits k first ys) (IsReadRound c.args.is_sparing name k first ys) (CalmEnd k) (λ e. IsReadPart c.args.is_sparing name k first ys) broken broken (g.N.Nodes.silent c.round.new.nodes ≡ true) (g.N.Nodes.silent c.round.new.nodes ≡ true) B C T U s c.begin.new.queues c.round.new.queues (Some (g.O.Sink.written c.args.out.now)) (Some (g.O.Sink.written c.begin.new.out)) (Some (g.O.Sink.written c.round.new.out)) c.round.result
     (splits_join k P (AreVisits k first ys)) (each_end c.round.result (λ e t es fs x y. inr (record { front = es; rest = fs; whole = refl; came = x; goes = y }))) (λ l. l) (λ l. l)
     (λ quiet. quiet) (λ v. c.round.ensures.held (driver c.args.name.now own) (drives_on (driver c.args.name.now own) own (g.R.Actor.own c.begin.new.reader) (refl, refl) (c.in_ok-begin.ensures.itself ∙ is)) k first v.moved.state v.far b there v.told v.moved.holds) (inr w)
 

@@ -19,19 +19,19 @@ next_came far T o m h received = subst (λ x. Receives far T (Ok x)) h received
 pub returns-in-Err-clause-held : goal.returns-in-Err-clause-held
 returns-in-Err-clause-held g c who is k first s far b there told h =
     let U = WithNode (g.N.Nodes.tells c.receive.new.self) k c.args.node in
-    let w = g.O.Sink.written c.args.out.now in
+    let w = Some (g.O.Sink.written c.args.out.now) in
     inr (subst (λ r. GoesOn who (IsBroken (g.N.Nodes.faults c.args.nodes.now) (g.N.Nodes.faults c.receive.new.self) (g.N.Nodes.endings c.args.nodes.now) (g.N.Nodes.endings c.receive.new.self)) (Visiting k c.args.node) (VisitEnd k c.args.node) (g.A.Actor.stands c.args.actor.now) U k first s c.args.queues.now w w r) (sym c.missed.ensures.value)
     (unheard who (IsBroken (g.N.Nodes.faults c.args.nodes.now) (g.N.Nodes.faults c.receive.new.self) (g.N.Nodes.endings c.args.nodes.now) (g.N.Nodes.endings c.receive.new.self)) k first b (g.A.Actor.stands c.args.actor.now) (g.met.A.Actor.stands_apart c.args.actor.now) s c.args.node (g.N.Nodes.tells c.receive.new.self k) U far c.args.queues.now w c.in-Err.fault (c.in-Err.ensures.received k far told.0)))
 
 pub returns-in_default-clause-held : goal.returns-in_default-clause-held
 returns-in_default-clause-held g c who is k first s far b there told h =
     let none = nothing_came far (g.N.Nodes.tells c.receive.new.self k) c.in-Ok.next c.in_default.is (c.in-Ok.ensures.received k far told.0) in
-    inr (went_here who (IsBroken (g.N.Nodes.faults c.args.nodes.now) (g.N.Nodes.faults c.receive.new.self) (g.N.Nodes.endings c.args.nodes.now) (g.N.Nodes.endings c.receive.new.self)) k first b (Visiting k c.args.node) (g.A.Actor.stands c.args.actor.now) (WithNode (g.N.Nodes.tells c.receive.new.self) k c.args.node) s far c.args.queues.now (g.O.Sink.written c.args.out.now) (tt, tt) ((none.1, none.0), told.1) h)
+    inr (went_here who (IsBroken (g.N.Nodes.faults c.args.nodes.now) (g.N.Nodes.faults c.receive.new.self) (g.N.Nodes.endings c.args.nodes.now) (g.N.Nodes.endings c.receive.new.self)) k first b (Visiting k c.args.node) (g.A.Actor.stands c.args.actor.now) (WithNode (g.N.Nodes.tells c.receive.new.self) k c.args.node) s far c.args.queues.now (Some (g.O.Sink.written c.args.out.now)) (tt, tt) ((none.1, none.0), told.1) h)
 
 pub returns-then-not-is_its-clause-held : goal.returns-then-not-is_its-clause-held
 returns-then-not-is_its-clause-held g c who is k first s far b there told h =
     let a = c.args.actor.now in
-    let w = g.O.Sink.written c.args.out.now in
+    let w = Some (g.O.Sink.written c.args.out.now) in
     let T = g.N.Nodes.tells c.receive.new.self in
     let next = next_came far (T k) c.in-Ok.next c.in-Some.answer c.in-Some.is (c.in-Ok.ensures.received k far told.0) in
     let once = subst (AnswersOnce c.args.node) next.first told.2 in
@@ -48,7 +48,7 @@ returns-in_err-take-clause-held g c who is k first s far b there told h =
     let next = next_came far (T k) c.in-Ok.next c.in-Some.answer c.in-Some.is (c.in-Ok.ensures.received k far told.0) in
     let once = subst (AnswersOnce c.args.node) next.first told.2 in
     let taken = takes_is who.takes (g.A.Actor.own c.args.actor.now) s c.in-Some.answer _ _ is.0 (c.is_its.ensures.taken k s h.actor (its_own c.args.node c.in-Some.answer next.rest once)) c.if-not-is_its.false in
-    rw (p.1, p.2) (inr (goes_as who (IsBroken (g.N.Nodes.faults c.args.nodes.now) (g.N.Nodes.faults c.receive.new.self) (g.N.Nodes.endings c.args.nodes.now) (g.N.Nodes.endings c.receive.new.self)) k first b {R = Bool} (IsDelivered c.in-Some.answer) (VisitEnd k c.args.node) ⊥ (g.A.Actor.stands new) (λ now. now ≡ record far { answers = next.rest }) (WithNode T k c.args.node) s c.take.new.queues (g.O.Sink.written c.args.out.now) (g.O.Sink.written c.take.new.out) (Err c.in_err-take.field-0.0) (λ x. absurd x)
+    rw (p.1, p.2) (inr (goes_as who (IsBroken (g.N.Nodes.faults c.args.nodes.now) (g.N.Nodes.faults c.receive.new.self) (g.N.Nodes.endings c.args.nodes.now) (g.N.Nodes.endings c.receive.new.self)) k first b {R = Bool} (IsDelivered c.in-Some.answer) (VisitEnd k c.args.node) ⊥ (g.A.Actor.stands new) (λ now. now ≡ record far { answers = next.rest }) (WithNode T k c.args.node) s c.take.new.queues (Some (g.O.Sink.written c.args.out.now)) (Some (g.O.Sink.written c.take.new.out)) (Err c.in_err-take.field-0.0) (λ x. absurd x)
     (λ f e. subst (WithNode T k c.args.node) (sym e) ((next.told, only_one c.args.node c.in-Some.answer next.rest once), told.1))
     (c.in_err-take.ensures.held who c.args.node k first s far next.rest b taken next.first h)))
 
@@ -59,16 +59,16 @@ returns-clause-held g c who is k first s far b there told h =
     let m = c.in-Some.answer in
     let T = g.N.Nodes.tells c.receive.new.self in
     let U = g.N.Nodes.tells c.remind.new.nodes in
-    let w = g.O.Sink.written c.take.new.out in
+    let w = Some (g.O.Sink.written c.take.new.out) in
     let broken = IsBroken (g.N.Nodes.faults c.args.nodes.now) (g.N.Nodes.faults c.remind.new.nodes) (g.N.Nodes.endings c.args.nodes.now) (g.N.Nodes.endings c.remind.new.nodes) in
     let next = next_came far (T k) c.in-Ok.next m c.in-Some.is (c.in-Ok.ensures.received k far told.0) in
     let once = subst (AnswersOnce y) next.first told.2 in
     let own = its_own y m next.rest once in
     let taken = takes_is who.takes (g.A.Actor.own c.args.actor.now) s m _ _ is.0 (c.is_its.ensures.taken k s h.actor own) c.if-not-is_its.false in
-    let went = went_as who ⊥ k first b (IsDelivered m) ⊥ (g.A.Actor.stands new) (λ now. now ≡ record far { answers = next.rest }) (WithNode T k y) s c.take.new.queues (g.O.Sink.written c.args.out.now) w (λ x. x)
+    let went = went_as who ⊥ k first b (IsDelivered m) ⊥ (g.A.Actor.stands new) (λ now. now ≡ record far { answers = next.rest }) (WithNode T k y) s c.take.new.queues (Some (g.O.Sink.written c.args.out.now)) w (λ x. x)
     (λ f e. subst (WithNode T k y) (sym e) ((next.told, only_one y m next.rest once), told.1))
     (c.in_ok-take.ensures.held who y k first s far next.rest b taken next.first h) in
-    then_on who broken k first b {R = Bool} (IsDelivered m) (IsReminded y m) (Visiting k y) (RemindEnd y m) (VisitEnd k y) ⊥ ⊥ (g.N.Nodes.silent c.remind.new.nodes ≡ true) (g.N.Nodes.silent c.remind.new.nodes ≡ true) (g.A.Actor.stands new) (g.A.Actor.stands c.remind.new.actor) (WithNode T k y) (WithNode U k y) s c.take.new.queues c.take.new.queues (g.O.Sink.written c.args.out.now) w w c.remind.result
+    then_on who broken k first b {R = Bool} (IsDelivered m) (IsReminded y m) (Visiting k y) (RemindEnd y m) (VisitEnd k y) ⊥ ⊥ (g.N.Nodes.silent c.remind.new.nodes ≡ true) (g.N.Nodes.silent c.remind.new.nodes ≡ true) (g.A.Actor.stands new) (g.A.Actor.stands c.remind.new.actor) (WithNode T k y) (WithNode U k y) s c.take.new.queues c.take.new.queues (Some (g.O.Sink.written c.args.out.now)) w w c.remind.result
     (reminded_joins k y m) (each_end c.remind.result (λ e. reminded_joins k y m)) (λ x. absurd x) (λ x. absurd x) (λ quiet. quiet)
     (λ v. c.remind.ensures.held who (drives_on who (g.A.Actor.own c.args.actor.now) (g.A.Actor.own new) is c.in_ok-take.ensures.itself) k first v.moved.state v.far c.take.new.queues w b there own v.told v.moved.holds) (inr went)
 
@@ -89,7 +89,7 @@ pub returns-clause-since : goal.returns-clause-since
 returns-clause-since g c = g.met.A.Actor.since_on c.args.actor.now c.take.new.actor c.remind.new.actor c.in_ok-take.ensures.since c.remind.ensures.since
 
 pub returns-clause-cause : goal.returns-clause-cause
-returns-clause-cause g c = c.remind.ensures.cause (g.O.Sink.faults c.args.out.now) (g.O.Sink.faults c.take.new.out) (g.O.Sink.written c.args.out.now) (g.O.Sink.written c.take.new.out)
+returns-clause-cause g c = c.remind.ensures.cause (g.O.Sink.faults c.args.out.now) (g.O.Sink.faults c.take.new.out) (Some (g.O.Sink.written c.args.out.now)) (Some (g.O.Sink.written c.take.new.out))
 
 pub returns-in_err-take-clause-off : goal.returns-in_err-take-clause-off
 returns-in_err-take-clause-off g c =

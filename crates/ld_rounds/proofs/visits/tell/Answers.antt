@@ -1,4 +1,4 @@
-use Rattle.std.proofs.Common.{subst, rules}
+use Rattle.std.proofs.Common.{subst, rules, Some}
 use Rattle.std.specs.Io.KnownBytes.{Appends}
 use Rattle.ld_transcript.specs.Text.{text}
 use Rattle.std.specs.Prelude.{IfSome}
@@ -13,8 +13,8 @@ returns-in_err-write_lines-clause-later g c =
 
 pub returns-in-Some-clause-ending : goal.returns-in-Some-clause-ending
 returns-in-Some-clause-ending g c said =
-    let written : Appends (g.O.Sink.written c.args.out.now) (g.O.Sink.written c.write_lines.new.out) (text c.args.heard.lines.items) = search rules in
-    ending_said (g.O.Sink.faults c.args.out.now) (g.O.Sink.faults c.write_lines.new.out) (g.O.Sink.written c.args.out.now) (g.O.Sink.written c.write_lines.new.out) c.args.heard.lines.items c.in-Some.end (subst (λ o. IfSome o (IsSaid c.args.heard.lines.items)) c.in-Some.is said) written
+    let written : Appends (Some (g.O.Sink.written c.args.out.now)) (Some (g.O.Sink.written c.write_lines.new.out)) (text c.args.heard.lines.items) = search rules in
+    ending_said (g.O.Sink.faults c.args.out.now) (g.O.Sink.faults c.write_lines.new.out) (Some (g.O.Sink.written c.args.out.now)) (Some (g.O.Sink.written c.write_lines.new.out)) c.args.heard.lines.items c.in-Some.end (subst (λ o. IfSome o (IsSaid c.args.heard.lines.items)) c.in-Some.is said) written
 
 pub returns-in-Some-clause-later : goal.returns-in-Some-clause-later
 returns-in-Some-clause-later g c = record { faults = c.in_ok-write_lines.ensures.later; more = _; written = c.in_ok-write_lines.ensures.written }

@@ -1,4 +1,4 @@
-use Rattle.std.proofs.Common.{◌≡◌, refl, ap, arith, sym, subst, inl, inr, ⊎_elim, ◌∙◌, List, Ok, Err, Bool, true, false}
+use Rattle.std.proofs.Common.{◌≡◌, refl, ap, arith, sym, subst, inl, inr, ⊎_elim, ◌∙◌, List, Ok, Err, Bool, true, false, Some}
 use Rattle.std.proofs.lemmas.Result.{err_from_is_err_and}
 use Rattle.ld_msg.specs.declared.msg.Msg.{Msg}
 use Rattle.ld_rounds.specs.Queued.{queue_of, behind}
@@ -12,14 +12,14 @@ use Rattle.ld_rounds.proofs.visits.visit.Goals as goal
 pub returns-then-not-has-clause-held : goal.returns-then-not-has-clause-held
 returns-then-not-has-clause-held g c who is k first s far b there told h =
     let broken = IsBroken (g.N.Nodes.faults c.args.nodes.now) (g.N.Nodes.faults c.args.nodes.now) (g.N.Nodes.endings c.args.nodes.now) (g.N.Nodes.endings c.args.nodes.now) in
-    let w = g.O.Sink.written c.args.out.now in
+    let w = Some (g.O.Sink.written c.args.out.now) in
     inr (went_visit who broken k first b c.args.node (g.A.Actor.stands c.args.actor.now) (g.N.Nodes.tells c.args.nodes.now k) s c.args.queues.now w w (unwaited (queue_of c.args.queues.now c.args.node) c.has.result c.has.ensures.waits c.if-not-has.true)
     (went_here who broken k first b (Visiting k c.args.node) (g.A.Actor.stands c.args.actor.now) (AllTaken (g.N.Nodes.tells c.args.nodes.now k)) s far c.args.queues.now w (tt, tt) told h))
 
 pub returns-in-Err-clause-held : goal.returns-in-Err-clause-held
 returns-in-Err-clause-held g c who is k first s far b there told h =
     let a = c.args.actor.now in
-    let w = g.O.Sink.written c.args.out.now in
+    let w = Some (g.O.Sink.written c.args.out.now) in
     let T = g.N.Nodes.tells c.dial.new.self k in
     let broken = IsBroken (g.N.Nodes.faults c.args.nodes.now) (g.N.Nodes.faults c.dial.new.self) (g.N.Nodes.endings c.args.nodes.now) (g.N.Nodes.endings c.dial.new.self) in
     inr (went_visit who broken k first b c.args.node (g.A.Actor.stands a) T s c.drop_all.new.self w w (ap (λ (x : List (List Msg)). queue_of x c.args.node) c.drop_all.ensures.dropped ∙ emptied c.args.queues.now c.args.node)
@@ -28,7 +28,7 @@ returns-in-Err-clause-held g c who is k first s far b there told h =
 
 pub frames-init : goal.frames-init
 frames-init g c = (
-  λ who is k first s far b there told h. inr (dialed who (IsBroken (g.N.Nodes.faults c.args.nodes.now) (g.N.Nodes.faults c.dial.new.self) (g.N.Nodes.endings c.args.nodes.now) (g.N.Nodes.endings c.dial.new.self)) k first b (g.A.Actor.stands c.args.actor.now) (g.met.A.Actor.stands_apart c.args.actor.now) s (g.N.Nodes.tells c.dial.new.self) far c.args.node c.args.queues.now (g.O.Sink.written c.args.out.now) told.1 h (c.in-Ok.ensures.dialed k far told.0).1),
+  λ who is k first s far b there told h. inr (dialed who (IsBroken (g.N.Nodes.faults c.args.nodes.now) (g.N.Nodes.faults c.dial.new.self) (g.N.Nodes.endings c.args.nodes.now) (g.N.Nodes.endings c.dial.new.self)) k first b (g.A.Actor.stands c.args.actor.now) (g.met.A.Actor.stands_apart c.args.actor.now) s (g.N.Nodes.tells c.dial.new.self) far c.args.node c.args.queues.now (Some (g.O.Sink.written c.args.out.now)) told.1 h (c.in-Ok.ensures.dialed k far told.0).1),
   λ quiet. c.in-Ok.ensures.silent ∙ quiet,
   later_here _ _,
   (let l = c.in-Ok.ensures.cause.later in let e = c.in-Ok.ensures.endings in (l, omega (arith, e))),
@@ -39,8 +39,8 @@ frames-init g c = (
 pub returns-in_default-clause-held : goal.returns-in_default-clause-held
 returns-in_default-clause-held g c who is k first s far b there told h =
     let a = c.frames.actor in
-    let old = g.O.Sink.written c.args.out.now in
-    let new = g.O.Sink.written c.frames.out in
+    let old = Some (g.O.Sink.written c.args.out.now) in
+    let new = Some (g.O.Sink.written c.frames.out) in
     let T = g.N.Nodes.tells c.frames.nodes in
     ⊎_elim (λ quiet. inl quiet)
     (λ w. let broken = IsBroken (g.N.Nodes.faults c.args.nodes.now) (g.N.Nodes.faults c.frames.nodes) (g.N.Nodes.endings c.args.nodes.now) (g.N.Nodes.endings c.frames.nodes) in
@@ -59,9 +59,9 @@ returns-in_err-exchange-clause-held g c who is k first s far b there told h =
     let y = c.args.node in
     let front = fronted (queue_of c.frames.queues y) c.in-Some.message (sym c.in-Some.is ∙ c.next.ensures.first) in
     rw (p.1, p.2) (visiting_on who (IsBroken (g.N.Nodes.faults c.args.nodes.now) (g.N.Nodes.faults c.exchange.new.nodes) (g.N.Nodes.endings c.args.nodes.now) (g.N.Nodes.endings c.exchange.new.nodes)) k first b {R = Bool} c.args.node (IsBroken (g.N.Nodes.faults c.args.nodes.now) (g.N.Nodes.faults c.frames.nodes) (g.N.Nodes.endings c.args.nodes.now) (g.N.Nodes.endings c.frames.nodes)) (IsBroken (g.N.Nodes.faults c.frames.nodes) (g.N.Nodes.faults c.exchange.new.nodes) (g.N.Nodes.endings c.frames.nodes) (g.N.Nodes.endings c.exchange.new.nodes)) (g.N.Nodes.silent c.frames.nodes ≡ true) (g.N.Nodes.silent c.exchange.new.nodes ≡ true) (g.A.Actor.stands c.frames.actor) (g.A.Actor.stands c.exchange.new.actor) (WithNode T k y) (AllTaken (U k)) s
-    c.frames.queues c.exchange.new.queues (g.O.Sink.written c.args.out.now) (g.O.Sink.written c.frames.out) (g.O.Sink.written c.exchange.new.out) (Err c.in_err-exchange.field-0.0) (broken_until _ _ _ _ _ _ c.in_err-exchange.ensures.counts) (broken_since _ _ _ _ _ _ c.frames.invariant.3)
+    c.frames.queues c.exchange.new.queues (Some (g.O.Sink.written c.args.out.now)) (Some (g.O.Sink.written c.frames.out)) (Some (g.O.Sink.written c.exchange.new.out)) (Err c.in_err-exchange.field-0.0) (broken_until _ _ _ _ _ _ c.in_err-exchange.ensures.counts) (broken_since _ _ _ _ _ _ c.frames.invariant.3)
     c.in_err-exchange.ensures.silent
-    (λ w. ⊎_elim (λ quiet. inl quiet) (λ v. inr (goes_as who (IsBroken (g.N.Nodes.faults c.frames.nodes) (g.N.Nodes.faults c.exchange.new.nodes) (g.N.Nodes.endings c.frames.nodes) (g.N.Nodes.endings c.exchange.new.nodes)) k first b {R = Bool} (Visiting k c.args.node) (VisitEnd k c.args.node) (IsBroken (g.N.Nodes.faults c.frames.nodes) (g.N.Nodes.faults c.exchange.new.nodes) (g.N.Nodes.endings c.frames.nodes) (g.N.Nodes.endings c.exchange.new.nodes)) (g.A.Actor.stands c.exchange.new.actor) (WithNode U k y) (AllTaken (U k)) w.moved.state c.exchange.new.queues (g.O.Sink.written c.frames.out) (g.O.Sink.written c.exchange.new.out) (Err c.in_err-exchange.field-0.0) (λ l. l) (λ f t. t.0) v))
+    (λ w. ⊎_elim (λ quiet. inl quiet) (λ v. inr (goes_as who (IsBroken (g.N.Nodes.faults c.frames.nodes) (g.N.Nodes.faults c.exchange.new.nodes) (g.N.Nodes.endings c.frames.nodes) (g.N.Nodes.endings c.exchange.new.nodes)) k first b {R = Bool} (Visiting k c.args.node) (VisitEnd k c.args.node) (IsBroken (g.N.Nodes.faults c.frames.nodes) (g.N.Nodes.faults c.exchange.new.nodes) (g.N.Nodes.endings c.frames.nodes) (g.N.Nodes.endings c.exchange.new.nodes)) (g.A.Actor.stands c.exchange.new.actor) (WithNode U k y) (AllTaken (U k)) w.moved.state c.exchange.new.queues (Some (g.O.Sink.written c.frames.out)) (Some (g.O.Sink.written c.exchange.new.out)) (Err c.in_err-exchange.field-0.0) (λ l. l) (λ f t. t.0) v))
     (c.in_err-exchange.ensures.held who (drives_on who (g.A.Actor.own c.args.actor.now) (g.A.Actor.own c.frames.actor) is c.frames.invariant.4) k first w.moved.state w.far c.frames.queues (behind (queue_of c.frames.queues y)) b there w.told w.moved.holds front c.next.ensures.left))
     (c.frames.invariant.0 who is k first s far b there told h))
 
@@ -79,11 +79,11 @@ returns-then-not-branch-clause-held g c who is k first s far b there told h =
     let U = g.N.Nodes.tells c.exchange.new.nodes in
     let y = c.args.node in
     let B = g.A.Actor.stands c.exchange.new.actor in
-    let old = g.O.Sink.written c.args.out.now in
-    let new = g.O.Sink.written c.exchange.new.out in
+    let old = Some (g.O.Sink.written c.args.out.now) in
+    let new = Some (g.O.Sink.written c.exchange.new.out) in
     let front = fronted (queue_of c.frames.queues y) c.in-Some.message (sym c.in-Some.is ∙ c.next.ensures.first) in
     let went = visiting_on who (IsBroken (g.N.Nodes.faults c.args.nodes.now) (g.N.Nodes.faults c.exchange.new.nodes) (g.N.Nodes.endings c.args.nodes.now) (g.N.Nodes.endings c.exchange.new.nodes)) k first b {R = Bool} c.args.node (IsBroken (g.N.Nodes.faults c.args.nodes.now) (g.N.Nodes.faults c.frames.nodes) (g.N.Nodes.endings c.args.nodes.now) (g.N.Nodes.endings c.frames.nodes)) (IsBroken (g.N.Nodes.faults c.frames.nodes) (g.N.Nodes.faults c.exchange.new.nodes) (g.N.Nodes.endings c.frames.nodes) (g.N.Nodes.endings c.exchange.new.nodes)) (g.N.Nodes.silent c.frames.nodes ≡ true) (g.N.Nodes.silent c.exchange.new.nodes ≡ true) (g.A.Actor.stands c.frames.actor) B (WithNode T k y) (WithNode U k y) s
-    c.frames.queues c.exchange.new.queues old (g.O.Sink.written c.frames.out) new (Ok false) (broken_until _ _ _ _ _ _ c.in_ok-exchange.ensures.counts) (broken_since _ _ _ _ _ _ c.frames.invariant.3)
+    c.frames.queues c.exchange.new.queues old (Some (g.O.Sink.written c.frames.out)) new (Ok false) (broken_until _ _ _ _ _ _ c.in_ok-exchange.ensures.counts) (broken_since _ _ _ _ _ _ c.frames.invariant.3)
     c.in_ok-exchange.ensures.silent
     (λ w. c.in_ok-exchange.ensures.held who (drives_on who (g.A.Actor.own c.args.actor.now) (g.A.Actor.own c.frames.actor) is c.frames.invariant.4) k first w.moved.state w.far c.frames.queues (behind (queue_of c.frames.queues y)) b there w.told w.moved.holds front c.next.ensures.left)
     (c.frames.invariant.0 who is k first s far b there told h) in
@@ -103,7 +103,7 @@ frames-preserved g c =
     let y = c.args.node in
     let front = fronted (queue_of c.frames.queues y) c.in-Some.message (sym c.in-Some.is ∙ c.next.ensures.first) in (
       λ who is k first s far b there told h. visiting_on who (IsBroken (g.N.Nodes.faults c.args.nodes.now) (g.N.Nodes.faults c.exchange.new.nodes) (g.N.Nodes.endings c.args.nodes.now) (g.N.Nodes.endings c.exchange.new.nodes)) k first b {R = Bool} c.args.node (IsBroken (g.N.Nodes.faults c.args.nodes.now) (g.N.Nodes.faults c.frames.nodes) (g.N.Nodes.endings c.args.nodes.now) (g.N.Nodes.endings c.frames.nodes)) (IsBroken (g.N.Nodes.faults c.frames.nodes) (g.N.Nodes.faults c.exchange.new.nodes) (g.N.Nodes.endings c.frames.nodes) (g.N.Nodes.endings c.exchange.new.nodes)) (g.N.Nodes.silent c.frames.nodes ≡ true) (g.N.Nodes.silent c.exchange.new.nodes ≡ true) (g.A.Actor.stands c.frames.actor) (g.A.Actor.stands c.exchange.new.actor) (WithNode T k y) (WithNode U k y) s
-          c.frames.queues c.exchange.new.queues (g.O.Sink.written c.args.out.now) (g.O.Sink.written c.frames.out) (g.O.Sink.written c.exchange.new.out) (Ok true) (broken_until _ _ _ _ _ _ c.in_ok-exchange.ensures.counts) (broken_since _ _ _ _ _ _ c.frames.invariant.3)
+          c.frames.queues c.exchange.new.queues (Some (g.O.Sink.written c.args.out.now)) (Some (g.O.Sink.written c.frames.out)) (Some (g.O.Sink.written c.exchange.new.out)) (Ok true) (broken_until _ _ _ _ _ _ c.in_ok-exchange.ensures.counts) (broken_since _ _ _ _ _ _ c.frames.invariant.3)
           c.in_ok-exchange.ensures.silent
           (λ w. c.in_ok-exchange.ensures.held who (drives_on who (g.A.Actor.own c.args.actor.now) (g.A.Actor.own c.frames.actor) is c.frames.invariant.4) k first w.moved.state w.far c.frames.queues (behind (queue_of c.frames.queues y)) b there w.told w.moved.holds front c.next.ensures.left)
           (c.frames.invariant.0 who is k first s far b there told h),
@@ -116,7 +116,7 @@ frames-preserved g c =
 
 pub returns-clause-held : goal.returns-clause-held
 returns-clause-held g c who is k first s far b there told h =
-    ⊎_elim (λ quiet. inl quiet) (λ w. inr (halted who (IsBroken (g.N.Nodes.faults c.args.nodes.now) (g.N.Nodes.faults c.frames.nodes) (g.N.Nodes.endings c.args.nodes.now) (g.N.Nodes.endings c.frames.nodes)) k first b (Visiting k c.args.node) (g.A.Actor.stands c.frames.actor) (WithNode (g.N.Nodes.tells c.frames.nodes) k c.args.node) s c.frames.queues (g.O.Sink.written c.args.out.now) (g.O.Sink.written c.frames.out) w))
+    ⊎_elim (λ quiet. inl quiet) (λ w. inr (halted who (IsBroken (g.N.Nodes.faults c.args.nodes.now) (g.N.Nodes.faults c.frames.nodes) (g.N.Nodes.endings c.args.nodes.now) (g.N.Nodes.endings c.frames.nodes)) k first b (Visiting k c.args.node) (g.A.Actor.stands c.frames.actor) (WithNode (g.N.Nodes.tells c.frames.nodes) k c.args.node) s c.frames.queues (Some (g.O.Sink.written c.args.out.now)) (Some (g.O.Sink.written c.frames.out)) w))
     (c.frames.invariant.0 who is k first s far b there told h)
 
 pub returns-then-not-has-clause-since : goal.returns-then-not-has-clause-since

@@ -23,17 +23,17 @@ use Rattle.ld_tail.proofs.tails.drive.Goals as goal
 pub returns-in_default-clause-drove : goal.returns-in_default-clause-drove
 returns-in_default-clause-drove g c s far told h =
     let a = c.args.reading.now in
-    inr (stopped_here (tailing (record { name = c.args.name.now; log = a.log; from = c.args.from; until = c.args.until; style = c.args.style })) (IsBroken (g.N.Nodes.faults c.args.nodes.now) (g.N.Nodes.faults c.args.nodes.now) (g.N.Nodes.endings c.args.nodes.now) (g.N.Nodes.endings c.args.nodes.now)) c.args.config.now s.network.count c.requires.bounds (EndAt (record { name = c.args.name.now; log = a.log; from = c.args.from; until = c.args.until; style = c.args.style }) c.args.config.now s.network.count c.args.rounds) s (g.O.Sink.written c.args.out.now) (inl (inl refl)))
+    inr (stopped_here (tailing (record { name = c.args.name.now; log = a.log; from = c.args.from; until = c.args.until; style = c.args.style })) (IsBroken (g.N.Nodes.faults c.args.nodes.now) (g.N.Nodes.faults c.args.nodes.now) (g.N.Nodes.endings c.args.nodes.now) (g.N.Nodes.endings c.args.nodes.now)) c.args.config.now s.network.count c.requires.bounds (EndAt (record { name = c.args.name.now; log = a.log; from = c.args.from; until = c.args.until; style = c.args.style }) c.args.config.now s.network.count c.args.rounds) s (Some (g.O.Sink.written c.args.out.now)) (inl (inl refl)))
 
 pub returns-in_default-new-clause-drove : goal.returns-in_default-new-clause-drove
 returns-in_default-new-clause-drove g c s far told h =
     let a = c.args.reading.now in
-    inr (stopped_here (tailing (record { name = c.args.name.now; log = a.log; from = c.args.from; until = c.args.until; style = c.args.style })) (IsBroken (g.N.Nodes.faults c.args.nodes.now) (g.N.Nodes.faults c.args.nodes.now) (g.N.Nodes.endings c.args.nodes.now) (g.N.Nodes.endings c.args.nodes.now)) c.args.config.now s.network.count c.requires.bounds (EndAt (record { name = c.args.name.now; log = a.log; from = c.args.from; until = c.args.until; style = c.args.style }) c.args.config.now s.network.count c.args.rounds) s (g.O.Sink.written c.args.out.now) (inl (inl refl)))
+    inr (stopped_here (tailing (record { name = c.args.name.now; log = a.log; from = c.args.from; until = c.args.until; style = c.args.style })) (IsBroken (g.N.Nodes.faults c.args.nodes.now) (g.N.Nodes.faults c.args.nodes.now) (g.N.Nodes.endings c.args.nodes.now) (g.N.Nodes.endings c.args.nodes.now)) c.args.config.now s.network.count c.requires.bounds (EndAt (record { name = c.args.name.now; log = a.log; from = c.args.from; until = c.args.until; style = c.args.style }) c.args.config.now s.network.count c.args.rounds) s (Some (g.O.Sink.written c.args.out.now)) (inl (inl refl)))
 
 pub returns-in_default-open-clause-drove : goal.returns-in_default-open-clause-drove
 returns-in_default-open-clause-drove g c s far told h =
     let a = c.args.reading.now in
-    inr (stopped_here (tailing (record { name = c.args.name.now; log = a.log; from = c.args.from; until = c.args.until; style = c.args.style })) (IsBroken (g.N.Nodes.faults c.args.nodes.now) (g.N.Nodes.faults c.args.nodes.now) (g.N.Nodes.endings c.args.nodes.now) (g.N.Nodes.endings c.args.nodes.now)) c.args.config.now s.network.count c.requires.bounds (EndAt (record { name = c.args.name.now; log = a.log; from = c.args.from; until = c.args.until; style = c.args.style }) c.args.config.now s.network.count c.args.rounds) s (g.O.Sink.written c.args.out.now) (inl (inl refl)))
+    inr (stopped_here (tailing (record { name = c.args.name.now; log = a.log; from = c.args.from; until = c.args.until; style = c.args.style })) (IsBroken (g.N.Nodes.faults c.args.nodes.now) (g.N.Nodes.faults c.args.nodes.now) (g.N.Nodes.endings c.args.nodes.now) (g.N.Nodes.endings c.args.nodes.now)) c.args.config.now s.network.count c.requires.bounds (EndAt (record { name = c.args.name.now; log = a.log; from = c.args.from; until = c.args.until; style = c.args.style }) c.args.config.now s.network.count c.args.rounds) s (Some (g.O.Sink.written c.args.out.now)) (inl (inl refl)))
 
 pub returns-in_err-tell-clause-drove : goal.returns-in_err-tell-clause-drove
 returns-in_err-tell-clause-drove g c s far told h =
@@ -51,8 +51,8 @@ returns-in_err-tell-clause-drove g c s far told h =
     let first_holds = begun (tailing (record { name = c.args.name.now; log = a.log; from = c.args.from; until = c.args.until; style = c.args.style })) (IsBroken (g.N.Nodes.faults c.args.nodes.now) (g.N.Nodes.faults c.args.nodes.now) (g.N.Nodes.endings c.args.nodes.now) (g.N.Nodes.endings c.args.nodes.now)) k c.requires.bounds T s far looked in
     let begins = subst (λ (qs : List (List Msg)). Holds (Follows [] T) k first s far qs) (sym c.in-Ok-new.ensures) first_holds in
     let acted = renamed (Follows z.readers U k) k s heard.lines.items heard.sends c.args.style x.name c.args.name.now x.log a.log c.args.from c.args.until (c.in-Ok.ensures.name ∙ c.requires.name) c.in-Ok.ensures.log (c.in-Ok-open.ensures.opened (c.in-Ok.ensures.readers ∙ c.requires.none) s first_holds.actor) in
-    let old = g.O.Sink.written c.args.out.now in
-    let new = g.O.Sink.written c.tell.new.out in
+    let old = Some (g.O.Sink.written c.args.out.now) in
+    let new = Some (g.O.Sink.written c.tell.new.out) in
     let e = c.in_err-tell.field-0.0 in
     let stops = opened_on (tailing (record { name = c.args.name.now; log = a.log; from = c.args.from; until = c.args.until; style = c.args.style })) (IsBroken (g.N.Nodes.faults c.args.nodes.now) (g.N.Nodes.faults c.args.nodes.now) (g.N.Nodes.endings c.args.nodes.now) (g.N.Nodes.endings c.args.nodes.now)) k c.requires.bounds T first [] z.readers U s far c.in-Ok-new.queues c.tell.new.queues old new heard begins (Err e) c.in_err-tell.ensures.told (unframed_end heard.end c.in-Ok-open.ensures.goes_on) (AllTaken (g.N.Nodes.tells c.args.nodes.now k)) (told, h.answers) c.args.style a.log c.args.from c.args.until until acted in
     rw (p.1, p.2) (inr (stopped_tail (record { name = c.args.name.now; log = a.log; from = c.args.from; until = c.args.until; style = c.args.style }) (IsBroken (g.N.Nodes.faults c.args.nodes.now) (g.N.Nodes.faults c.args.nodes.now) (g.N.Nodes.endings c.args.nodes.now) (g.N.Nodes.endings c.args.nodes.now)) c.args.rounds (g.N.Nodes.tells c.args.nodes.now) k c.requires.bounds s z.readers U c.tell.new.queues old new e stops))
@@ -72,9 +72,9 @@ returns-clause-drove g c s far told h =
     let first_holds = begun (tailing (record { name = c.args.name.now; log = a.log; from = c.args.from; until = c.args.until; style = c.args.style })) (IsBroken (g.N.Nodes.faults c.args.nodes.now) (g.N.Nodes.faults c.read.new.nodes) (g.N.Nodes.endings c.args.nodes.now) (g.N.Nodes.endings c.read.new.nodes)) k c.requires.bounds T s far looked in
     let begins = subst (λ (qs : List (List Msg)). Holds (Follows [] T) k first s far qs) (sym c.in-Ok-new.ensures) first_holds in
     let acted = renamed (Follows z.readers U k) k s heard.lines.items heard.sends c.args.style x.name c.args.name.now x.log a.log c.args.from c.args.until (c.in-Ok.ensures.name ∙ c.requires.name) c.in-Ok.ensures.log (c.in-Ok-open.ensures.opened (c.in-Ok.ensures.readers ∙ c.requires.none) s first_holds.actor) in
-    let old = g.O.Sink.written c.args.out.now in
-    let mid = g.O.Sink.written c.tell.new.out in
-    let new = g.O.Sink.written c.read.new.out in
+    let old = Some (g.O.Sink.written c.args.out.now) in
+    let mid = Some (g.O.Sink.written c.tell.new.out) in
+    let new = Some (g.O.Sink.written c.read.new.out) in
     let N = AllTaken (g.N.Nodes.tells c.args.nodes.now k) in
     let v = opened_on (tailing (record { name = c.args.name.now; log = a.log; from = c.args.from; until = c.args.until; style = c.args.style })) (IsBroken (g.N.Nodes.faults c.args.nodes.now) (g.N.Nodes.faults c.read.new.nodes) (g.N.Nodes.endings c.args.nodes.now) (g.N.Nodes.endings c.read.new.nodes)) k c.requires.bounds T first [] z.readers U s far c.in-Ok-new.queues c.tell.new.queues old mid heard begins (Ok tt) c.in_ok-tell.ensures.told (unframed_end heard.end c.in-Ok-open.ensures.goes_on) N (told, h.answers) c.args.style a.log c.args.from c.args.until until acted in
     drove_loud (record { name = c.args.name.now; log = a.log; from = c.args.from; until = c.args.until; style = c.args.style }) (IsBroken (g.N.Nodes.faults c.args.nodes.now) (g.N.Nodes.faults c.read.new.nodes) (g.N.Nodes.endings c.args.nodes.now) (g.N.Nodes.endings c.read.new.nodes)) c.args.rounds (g.N.Nodes.tells c.read.new.nodes) k c.requires.bounds s c.read.new.reader.readers (g.G.Register.tells c.read.new.reader.register) c.read.new.queues old new (Follows z.readers U) N c.tell.new.queues mid v

@@ -1,4 +1,4 @@
-use Rattle.std.proofs.Common.{◌≡◌, ◌⊎◌, ℕ, refl, sym, ap, ◌∙◌, subst, inl, inr, None, true}
+use Rattle.std.proofs.Common.{◌≡◌, ◌⊎◌, ℕ, refl, sym, ap, ◌∙◌, subst, inl, inr, None, true, Some}
 use Rattle.ld_rounds.specs.declared.ended.Ended.{Ended}
 use Rattle.ld_rounds.specs.Drives.{IsBroken}
 use Rattle.ld_rounds.specs.Endings.{IsOffAs}
@@ -13,7 +13,7 @@ use Rattle.ld_tail.proofs.tails.tail.Goals as goal
 
 pub returns-in_default-clause-tailed : goal.returns-in_default-clause-tailed
 returns-in_default-clause-tailed g c s far told h =
-    inr (stopped_here (tailing (record { name = c.args.name; log = c.args.log; from = c.args.from; until = c.args.until; style = c.args.style })) (IsBroken (g.N.Nodes.faults c.args.nodes.now) (g.N.Nodes.faults c.args.nodes.now) (g.N.Nodes.endings c.args.nodes.now) (g.N.Nodes.endings c.args.nodes.now)) c.args.config.now s.network.count c.requires (EndAt (record { name = c.args.name; log = c.args.log; from = c.args.from; until = c.args.until; style = c.args.style }) c.args.config.now s.network.count c.args.rounds) s (g.O.Sink.written c.args.out.now) (inl (inl refl)))
+    inr (stopped_here (tailing (record { name = c.args.name; log = c.args.log; from = c.args.from; until = c.args.until; style = c.args.style })) (IsBroken (g.N.Nodes.faults c.args.nodes.now) (g.N.Nodes.faults c.args.nodes.now) (g.N.Nodes.endings c.args.nodes.now) (g.N.Nodes.endings c.args.nodes.now)) c.args.config.now s.network.count c.requires (EndAt (record { name = c.args.name; log = c.args.log; from = c.args.from; until = c.args.until; style = c.args.style }) c.args.config.now s.network.count c.args.rounds) s (Some (g.O.Sink.written c.args.out.now)) (inl (inl refl)))
 
 pub returns-clause-tailed : goal.returns-clause-tailed
 returns-clause-tailed g c s far told h =
@@ -26,8 +26,8 @@ returns-clause-tailed g c s far told h =
     (why_is (HeldNone (g.G.Register.holds r)) (λ place. g.G.Register.told r → g.G.Register.damaged r place) (g.G.Register.faults r) (g.G.Register.faults x) y.end looked.ended
     (λ place is. subst (λ q. (g.G.Register.told q → g.G.Register.damaged q place)) c.new-reading.ensures.register (c.drive-driven.ensures.damaged place is))) in
     let k = c.args.config.now in
-    let old = g.O.Sink.written c.args.out.now in
-    let new = g.O.Sink.written c.drive-driven.new.out in
+    let old = Some (g.O.Sink.written c.args.out.now) in
+    let new = Some (g.O.Sink.written c.drive-driven.new.out) in
     let begins = subst (λ q. Begins (HasNone (g.G.Register.tells q)) k s far) (sym c.new-reading.ensures.register) h in
     let drove = subst (λ (l : ℕ). (g.N.Nodes.silent c.drive-driven.new.nodes ≡ true) ⊎ DroveTail (record { name = c.args.name; log = l; from = c.args.from; until = c.args.until; style = c.args.style }) (IsBroken (g.N.Nodes.faults c.args.nodes.now) (g.N.Nodes.faults c.drive-driven.new.nodes) (g.N.Nodes.endings c.args.nodes.now) (g.N.Nodes.endings c.drive-driven.new.nodes)) c.args.rounds (g.N.Nodes.tells c.drive-driven.new.nodes) (g.G.Register.tells y.register) k s old new c.drive-driven.result) c.new-reading.ensures.log (c.drive-driven.ensures.drove s far told begins) in
     let drove_here = subst (λ q. (g.N.Nodes.silent c.drive-driven.new.nodes ≡ true) ⊎ DroveTail (record { name = c.args.name; log = c.args.log; from = c.args.from; until = c.args.until; style = c.args.style }) (IsBroken (g.N.Nodes.faults c.args.nodes.now) (g.N.Nodes.faults c.drive-driven.new.nodes) (g.N.Nodes.endings c.args.nodes.now) (g.N.Nodes.endings c.drive-driven.new.nodes)) c.args.rounds (g.N.Nodes.tells c.drive-driven.new.nodes) (g.G.Register.tells q) k s old new c.drive-driven.result) (sym c.into_register.ensures) drove in
@@ -45,7 +45,7 @@ returns-clause-cause g c =
     (why_is (HeldNone (g.G.Register.holds r)) (λ place. g.G.Register.told r → g.G.Register.damaged r place) (g.G.Register.faults r) (g.G.Register.faults x) y.end looked.ended
     (λ place is. subst (λ q. (g.G.Register.told q → g.G.Register.damaged q place)) c.new-reading.ensures.register (c.drive-driven.ensures.damaged place is))) in
     subst (λ (e : Ended). IsTailEnd (λ place. g.G.Register.told r → g.G.Register.damaged r place) (g.G.Register.faults r) (g.G.Register.faults x) (g.O.Sink.faults c.args.out.now) (g.O.Sink.faults c.drive-driven.new.out) e) (sym c.end_of-ended.ensures)
-    (tail_end (λ place. g.G.Register.told r → g.G.Register.damaged r place) (g.G.Register.faults r) (g.G.Register.faults x) (g.O.Sink.faults c.args.out.now) (g.O.Sink.faults c.drive-driven.new.out) (g.O.Sink.written c.args.out.now) (g.O.Sink.written c.drive-driven.new.out) c.drive-driven.result c.why_of.result why c.drive-driven.ensures.cause)
+    (tail_end (λ place. g.G.Register.told r → g.G.Register.damaged r place) (g.G.Register.faults r) (g.G.Register.faults x) (g.O.Sink.faults c.args.out.now) (g.O.Sink.faults c.drive-driven.new.out) (Some (g.O.Sink.written c.args.out.now)) (Some (g.O.Sink.written c.drive-driven.new.out)) c.drive-driven.result c.why_of.result why c.drive-driven.ensures.cause)
 
 pub returns-clause-told : goal.returns-clause-told
 returns-clause-told g c =

@@ -28,12 +28,7 @@ returns-in_err-id-2-clause-says c =
 pub returns-in_err-store-clause-says : goal.returns-in_err-store-clause-says
 returns-in_err-store-clause-says c =
     refused_one c.from_residual-in_err-store.result c.in_err-store.field-0.0 (IsNodeWords (rows_of (found_of c.args.matches.now))) _ c.from_residual-in_err-store.ensures.1 c.in_err-store.ensures
-    (λ w words none. not_none _ _ words.store none)
-
-pub returns-in_err-register-clause-says : goal.returns-in_err-register-clause-says
-returns-in_err-register-clause-says c =
-    refused_one c.from_residual-in_err-register.result c.in_err-register.field-0.0 (IsNodeWords (rows_of (found_of c.args.matches.now))) _ c.from_residual-in_err-register.ensures.1 c.in_err-register.ensures
-    (λ w words none. not_none _ _ words.register none)
+    (λ w words none. none w.store w.register words.files)
 
 pub returns-in_err-port-clause-says : goal.returns-in_err-port-clause-says
 returns-in_err-port-clause-says c =
@@ -54,8 +49,7 @@ returns c =
         id = id;
         config = record { text = c.in_ok-text.field-0.now; is = c.in_ok-text.ensures; says = c.in_ok-config.ensures.says };
         member = member;
-        store = c.in_ok-store.ensures;
-        register = c.in_ok-register.ensures;
+        files = c.in_ok-store.ensures;
         port = c.in_ok-port.ensures;
         turns = c.in_ok-turns.ensures;
         format = c.flag.ensures;

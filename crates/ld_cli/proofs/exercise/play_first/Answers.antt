@@ -1,13 +1,9 @@
 use Rattle.std.proofs.Common.{◌∙◌, arith}
-use Rattle.ld_cli.proofs.MadeRun.{unplayed, can_take_first, first_on, first_done}
-use Rattle.ld_cli.proofs.exercise.begin.Goals as goal
+use Rattle.ld_cli.proofs.MadeRun.{can_take_first, first_on, first_done}
+use Rattle.ld_cli.proofs.exercise.play_first.Goals as goal
 
 pub loop-event-init : goal.loop-event-init
-loop-event-init c = (
-  unplayed c.in_ok-cluster.cluster c.new-2.result (c.in_ok-cluster.ensures.config ∙ c.in_ok-config.ensures.config) c.in_ok-cluster.ensures.past
-      c.in_ok-cluster.ensures.reached c.new-2.ensures,
-  omega arith,
-)
+loop-event-init c = (c.requires, omega arith)
 
 pub take-requires-clause-reached : goal.take-requires-clause-reached
 take-requires-clause-reached c = c.loop-event.invariant.0.reached

@@ -1,6 +1,6 @@
 use Rattle.std.proofs.Common.{◌-◌, ◌+◌, ◌^◌, ◌≤◌, take, length}
 use Rattle.ld_cli.specs.Exercise.{HasPlayed}
-use Rattle.ld_cli.proofs.exercise.begin.Given as goal
+use Rattle.ld_cli.proofs.exercise.play_first.Given as goal
 
 abbrev pub invariant-loop-event : goal.invariant-loop-event
 invariant-loop-event l =

@@ -1,11 +1,11 @@
 use Rattle.std.proofs.Common.{◌-◌, ◌+◌, arith}
 use Rattle.ld_cli.proofs.MadeRun.{making_begins, making_on, making_ends}
-use Rattle.ld_cli.proofs.exercise.play_made.Goals as goal
+use Rattle.ld_cli.proofs.exercise.play_events.Goals as goal
 
 pub events-init : goal.events-init
 events-init c =
-    making_begins c.args.seed c.args.events c.new-maker.result c.in_ok-play.play.cluster c.in_ok-play.play.tally
-    (omega (arith, c.ranges.events.fits)) c.new-maker.ensures c.in_ok-play.ensures
+    making_begins c.args.seed c.args.events c.new-maker.result c.args.play.now.cluster c.args.play.now.tally
+    (omega (arith, c.ranges.events.fits)) c.new-maker.ensures c.requires
 
 pub events-preserved : goal.events-preserved
 events-preserved c =

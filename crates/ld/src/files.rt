@@ -1,0 +1,66 @@
+// The files that a command names.
+use ld_words::Places;
+use std::fs;
+use std::fs::Metadata;
+use std::os::unix::fs::MetadataExt;
+use std::path::Path;
+
+/// The file of the store; a command that has none opens none.
+pub fn store_of(places: &Places) -> &str {
+    match &places.store {
+        Some(store) => store.as_str(),
+        None => "",
+    }
+}
+
+/// Whether the store and the register are one file, by whatever paths.
+pub fn are_one_file(rt: &HostRuntime, places: &Places) -> bool {
+    match &places.store {
+        Some(store) => is_one_file(rt, store.as_str(), places.register.as_str()),
+        None => false,
+    }
+}
+
+/// Whether two paths name one file; of paths that name none yet, whether they are one name in one folder.
+fn is_one_file(rt: &HostRuntime, one: &str, other: &str) -> bool {
+    match (fs::metadata(rt, one), fs::metadata(rt, other)) {
+        (Ok(one), Ok(other)) => is_same(&one, &other),
+        (Err(_), Err(_)) => is_one_name(rt, one, other),
+        _ => false,
+    }
+}
+
+/// Whether two paths end in one name, in one folder.
+fn is_one_name(rt: &HostRuntime, one: &str, other: &str) -> bool {
+    if name_of(one) != name_of(other) {
+        return false;
+    }
+    match (
+        fs::metadata(rt, folder_of(one)),
+        fs::metadata(rt, folder_of(other)),
+    ) {
+        (Ok(one), Ok(other)) => is_same(&one, &other),
+        _ => false,
+    }
+}
+
+/// Whether these are of one file or folder.
+fn is_same(one: &Metadata, other: &Metadata) -> bool {
+    one.dev() == other.dev() && one.ino() == other.ino()
+}
+
+/// The last name of a path.
+fn name_of(path: &str) -> &str {
+    match path.rsplit_once('/') {
+        Some((_, name)) => name,
+        None => path,
+    }
+}
+
+/// The folder of a path.
+fn folder_of(path: &str) -> &str {
+    match Path::new(path).parent() {
+        Some(folder) if !folder.as_str().is_empty() => folder.as_str(),
+        _ => ".",
+    }
+}

@@ -1,0 +1,17 @@
+use Rattle.clap.specs.Walk.{Text}
+use Rattle.clap.specs.Words.{rows_of, found_of}
+use Rattle.ld_words.specs.Meaning.{AreFiles}
+use Rattle.ld_words.proofs.Refused.{refused, not_none}
+use Rattle.ld_words.proofs.words.files.Goals as goal
+
+pub returns-in_err-store : goal.returns-in_err-store
+returns-in_err-store c =
+    refused c.from_residual.result c.in_err-store.field-0.0 (λ f. AreFiles (rows_of (found_of c.args.matches.now)) f.0 f.1) _
+    ((store register : Text) → AreFiles (rows_of (found_of c.args.matches.now)) store register → ⊥) c.from_residual.ensures.1 c.in_err-store.ensures
+    (λ none store register files. not_none _ _ files.first none)
+
+pub returns-in_err-register : goal.returns-in_err-register
+returns-in_err-register c =
+    refused c.from_residual-in_err-register.result c.in_err-register.field-0.0 (λ f. AreFiles (rows_of (found_of c.args.matches.now)) f.0 f.1) _
+    ((store register : Text) → AreFiles (rows_of (found_of c.args.matches.now)) store register → ⊥) c.from_residual-in_err-register.ensures.1 c.in_err-register.ensures
+    (λ none store register files. not_none _ _ files.second none)
