@@ -66,6 +66,16 @@ impl Place {
         self.next
     }
 
+    /// The next number, and the one behind the last where none is left.
+    pub fn next_number(&self) -> u128
+        ensures { result ≡ self.now.next }
+    {
+        match self.next {
+            Some(next) => u128::from(next.value()),
+            None => u128::from(self.until.value()) + 1,
+        }
+    }
+
     /// Whether none is left.
     pub fn is_past(&self) -> bool
         ensures past { result ≡ is_past self.now }

@@ -23,7 +23,7 @@ use crate::seen::Seen;
 use crate::senders::Senders;
 use crate::{Items, ReaderFault};
 use ld_gap::{Held, Replaced, round_of};
-use ld_ids::{NoMemory, NodeId, Spec};
+use ld_ids::{LogId, NoMemory, NodeId, Spec};
 use ld_lsn::Lsn;
 use ld_msg::{Body, Msg, Outbox, Style, Who};
 use ld_register::Register;
@@ -145,6 +145,20 @@ impl Reader {
         ensures within { self.now.reader.next ≤ self.now.reader.until + 1 }
     {
         self.place.is_past()
+    }
+
+    /// The log that it reads.
+    pub fn log(&self) -> LogId
+        ensures { result ≡ self.now.reader.log }
+    {
+        self.first.log
+    }
+
+    /// Its next number, and the one behind its last where it is finished.
+    pub fn next_number(&self) -> u128
+        ensures { result ≡ self.now.reader.next }
+    {
+        self.place.next_number()
     }
 
     /// How it reads.
