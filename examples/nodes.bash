@@ -1,8 +1,12 @@
 # Nodes as processes of this machine, for the scripts beside it: they set `config` and `nodes`, and source this file.
 #
-# All files are in a folder of their own, which is removed at the end, as are the nodes, however it ends. Without PROGRAM it is ./ld.
+# All files are in a folder of their own, which is removed at the end, as are the nodes, however it ends. Without PROGRAM it is what
+# ./ld runs, which is built before any node is started; why it can't be built ./ld says.
 top=$(cd "$(dirname "${BASH_SOURCE[0]}")/.." && pwd) || exit 1
-program=${1:-$top/ld}
+if [ $# -eq 0 ]; then
+  "$top/ld" exercise --seed 1 --events 0 > /dev/null || exit 1
+fi
+program=${1:-$top/crates/ld/out/ld}
 folder=$(mktemp -d) || exit 1
 declare -A process
 

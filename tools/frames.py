@@ -1,8 +1,8 @@
 """Frames of docs/formats.md, as the scripts beside this file and those of bench/ speak them to `ld node`."""
-import socket, struct, subprocess, time
+import pathlib, socket, struct, subprocess, time
 
 NODE, SEQUENCER, READER = 0, 1, 2
-STORE, STORED, RELEASE, READ_ASK, READ_PAGE, READ_WAIT = 1, 2, 10, 12, 13, 16
+STORE, STORED, RELEASE, TRIM, READ_ASK, READ_PAGE, READ_TRIM, READ_WAIT = 1, 2, 10, 11, 12, 13, 15, 16
 
 
 def number(epoch, place):
@@ -23,6 +23,10 @@ def store(epoch, node, log, at, payload, known_good=0):
 
 def release(epoch, node, log, at):
     return frame(RELEASE, (SEQUENCER, epoch), (NODE, node), log, struct.pack(">Q", at))
+
+
+def trim(epoch, node, log, at):
+    return frame(TRIM, (SEQUENCER, epoch), (NODE, node), log, struct.pack(">Q", at))
 
 
 def read_ask(reader, node, log, number_of_round, at):
@@ -140,3 +144,80 @@ class Node:
     def kill(self):
         self.process.kill()
         self.process.wait()
+
+
+class Nodes:
+    """Several `ld node` of one configuration, which keep log 1 in so many copies, and the commands over them; files are in a folder."""
+
+    def __init__(self, program, folder, count, copies):
+        self.program, self.folder, self.processes = program, pathlib.Path(folder), {}
+        self.members = list(range(1, count + 1))
+        members = ",".join(map(str, self.members))
+        self.config = f'{{"nodes":[{members}],"logs":[{{"id":1,"set":[{members}],"r":{copies}}}]}}'
+        self.register = self.folder / "register"
+        self.base = None
+
+    def store(self, node):
+        return self.folder / f"store{node}"
+
+    def words(self, node, port, register=None):
+        words = ["node", "--id", str(node), "--config", self.config, "--store", str(self.store(node)), "--register", str(register or self.register)]
+        return [self.program, *words, "--port", str(port), "--turns", "1000000000"]
+
+    def start(self, node, with_format=False):
+        """Starts a node, whose standard error goes to a file of its own."""
+        with open(self.folder / f"said{node}", "wb") as said:
+            words = self.words(node, self.base + node) + ["--format"] * with_format
+            self.processes[node] = subprocess.Popen(words, stdin=subprocess.DEVNULL, stdout=subprocess.DEVNULL, stderr=said)
+
+    def is_listening(self, node, within=20):
+        """Waits until a node listens; False where it has ended, or doesn't in time."""
+        end = time.monotonic() + within
+        while self.processes[node].poll() is None and time.monotonic() < end:
+            try:
+                Peer(self.base + node, within=0).close()
+                return self.processes[node].poll() is None
+            except OSError:
+                time.sleep(0.005)
+        return False
+
+    def start_all(self, with_format=False, at_once=False):
+        """Starts all nodes, at once or one after the other; where somebody else has a port they are tried at other ones."""
+        for _ in range(20):
+            self.base = free_ports(len(self.members) + 1)
+            listening = True
+            for node in self.members:
+                self.start(node, with_format)
+                listening = listening and (at_once or self.is_listening(node))
+            if listening and all(self.is_listening(node) for node in self.members):
+                return
+            ended = [process.poll() for process in self.processes.values()]
+            if not any(status == 9 for status in ended):
+                break
+            self.stop()
+        said = "".join((self.folder / f"said{node}").read_text(errors="replace") for node in self.members)
+        self.stop()
+        raise NotUp(f"the nodes don't listen; they said: {said}")
+
+    def log_words(self, command, rounds, *more, register=None, base=None):
+        words = ["--config", self.config, "--log", "1", "--register", str(register or self.register), "--port", str(base or self.base), "--rounds", str(rounds)]
+        return [self.program, command, *words, *more]
+
+    def log(self, command, rounds, given, *more, register=None, timeout=120):
+        """Runs `append` or `tail`: its status, and the lines of its standard output and standard error; the status is None where it isn't done in time."""
+        words = self.log_words(command, rounds, *more, register=register)
+        try:
+            ran = subprocess.run(words, input=given.encode(), stdout=subprocess.PIPE, stderr=subprocess.PIPE, timeout=timeout)
+        except subprocess.TimeoutExpired:
+            return None, [], []
+        return ran.returncode, ran.stdout.decode().splitlines(), ran.stderr.decode(errors="replace").splitlines()
+
+    def stop(self):
+        for process in self.processes.values():
+            process.kill()
+            process.wait()
+        self.processes = {}
+
+
+class NotUp(Exception):
+    """Nodes that were started don't listen."""
