@@ -127,7 +127,7 @@ pub start_off : (before now : ℕ) (ls : List Line) (end : Option Ended) (off : 
 start_off before now ls end off (Ok u) t f = tt
 start_off before now ls end off (Err e) t f = ⊎_elim (λ is. off_start ls off e (subst (λ (o : Option Ended). IfSome o (IsStartTold ls)) is t)) (λ w. off_write before now off e w) f
 
--- a drive that ends at the activation is neither done nor at a line that is off
+-- a drive that ends at the activation is neither done nor at a line with a syntax error
 pub start_partly : (crowded : Type 0) (damaged : ℕ → Type 0) (before now : ℕ) (old new : Option (List ℕ)) (e : Ended) → IsStartEnding crowded damaged before now old new e → IsPartly e
 start_partly crowded damaged k m a c ends.Done i = absurd i.said
 start_partly crowded damaged k m a c (ends.BadLine line place) i = absurd i.said

@@ -56,7 +56,7 @@ module _ (told : Type 0) (holds_old holds_new may_old may_new : Register → Typ
   report_goes None (Some unclosed.Failed) y k h = absurd cc
   report_goes None (Some unclosed.Full) y k h = absurd cc
 
-  -- by a fault that is neither want of memory nor a failed call
+  -- by a fault that is neither running out of memory nor a failed call
   other : {X : Type 0} (f : SequencerFault) → (f ≡ faults.NoMemory → ⊥) → (f ≡ faults.Register registers.Failed → ⊥) → (f ≡ faults.NoMemory) ⊎ (f ≡ faults.Register registers.Failed) ⊎ X → X
   other f m n u = ⊎_elim (λ z. absurd (m z)) (λ z. ⊎_elim (λ y. absurd (n y)) (λ y. y) z) u
 

@@ -26,7 +26,7 @@ use Rattle.ld_rounds.proofs.Writing.{all_written}
 use Rattle.ld_append.specs.Refusing.{kept_end, round_end}
 use Rattle.ld_append.specs.Appends.{sequencing, EndAt, IsAppended, DroveAppend, IsDriveEnding, IsRefused}
 
--- it is kept why, or it ends for want of memory
+-- it is kept why, or it ends when out of memory
 pub kept_cases : (kept : Option Ended) → ((r : Refusal) × (kept ≡ Some (ends.Register r)) × (kept_end kept ≡ ends.Register r)) ⊎ (kept_end kept ≡ ends.NoMemory)
 kept_cases (Some (ends.Register r)) = inl (r, refl, refl)
 kept_cases None = inr refl

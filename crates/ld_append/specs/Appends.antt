@@ -28,7 +28,7 @@ use Rattle.ld_rounds.specs.Refusals.{IsRefusal}
 use Rattle.ld_rounds.specs.Feeding.{IsAppendEnding}
 use Rattle.ld_append.specs.Acting.{takes}
 
--- at the activation: nothing is written where the register holds as many other logs as may be, or is damaged from that place on
+-- at the activation: nothing is written where the register holds as many other logs as may be, or is damaged from that offset on
 abbrev pub IsStartEnding : Type 0 → (ℕ → Type 0) → ℕ → ℕ → Option (List ℕ) → Option (List ℕ) → Ended → Type 0
 IsStartEnding crowded damaged before now old new ends.LogLimit = Appends old new [] × crowded
 IsStartEnding crowded damaged before now old new (ends.Register (refusals.Damaged place)) = Appends old new [] × damaged place
@@ -45,7 +45,7 @@ IsEndOfAppend crowded damaged coming input_before input_now before now old new e
 IsEndOfAppend crowded damaged coming input_before input_now before now old new ends.LogLimit = crowded
 IsEndOfAppend crowded damaged coming input_before input_now before now old new ended = IsDriveEnding crowded damaged coming input_before input_now before now old new ended
 
--- why the register refused, where it ends by that, by the register's counts of faults before and now: a call of it failed; or none did, and it was damaged from that place on, or whole and is without room
+-- why the register refused, where it ends by that, by the register's counts of faults before and now: a call of it failed; or none did, and it was damaged from that offset on, or whole and is without room
 abbrev pub IsRefused : (ℕ → Type 0) → Type 0 → ℕ → ℕ → Ended → Type 0
 IsRefused damaged whole before now (ends.Register refusal) = IsRefusal (λ place. (now ≡ before) × damaged place) ((now ≡ before) × whole) before now refusal
 IsRefused damaged whole before now _ = Unit {0}
@@ -62,7 +62,7 @@ pub record HasNone (tells : Register → Type 0) (s : State) : Type 0 where
   pub sequencers : s.sequencers ≡ []
   pub register : tells s.register
 
--- its only sequencer is the one of the name: it has each append acknowledged and each epoch before its own closed, no message to a node that is new from the first place on waits, and no answer is to be taken
+-- its only sequencer is the one of the name: it has each append acknowledged and each epoch before its own closed, no message to a node that is new from the first offset on waits, and no answer is to be taken
 pub record IsSettled (name : List ℕ) (c : Config) (first : ℕ) (s : State) : Type 0 where
   pub sequencer : Whole
   pub there : s.sequencers ≡ (name, sequencer.sequencer) ∷ []

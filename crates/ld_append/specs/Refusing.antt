@@ -80,7 +80,7 @@ abbrev pub going : Option Ended → Option Ended
 going (Some ends.LogLimit) = None
 going end = end
 
--- why the register refused, where that is kept; else it is for want of memory
+-- why the register refused, where that is kept; else it is when out of memory
 abbrev pub kept_end : Option Ended → Ended
 kept_end (Some (ends.Register refusal)) = ends.Register refusal
 kept_end _ = ends.NoMemory

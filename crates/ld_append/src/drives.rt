@@ -100,10 +100,10 @@ fn drive<G: Register, N: Nodes, P: Payloads, O: Sink>(
 /// It ends with `Done` where the input has ended, every append is acknowledged, every epoch before its own is closed and no
 /// message waits, with `Rounds` where all rounds were taken and it isn't done, and with `LogLimit` where the register holds as
 /// many other logs as may be: then nothing was written, or all rounds were taken. It ends with `Preempted`, `EpochLimit`,
-/// `EpochFull` or `Register` where a line says so, `Register` as well where a look failed behind word that an epoch is closed; but
-/// with a damaged register without a line at the activation; with
-/// `BadFrame` where what a node sent begins no frame, with `BadLine` at the first line of the input that is off, with `Read`
-/// where the input failed, with `Write` where the output failed, and for want of memory.
+/// `EpochFull` or `Register` where a line says so, `Register` as well where a look failed behind word that an epoch is closed;
+/// but with a damaged register without a line at the activation; with `BadFrame` where what a node sent begins no frame, with
+/// `BadLine` at the first line of the input with a syntax error, with `Read` where the input failed, with `Write` where the
+/// output failed, and when out of memory.
 pub fn append<G: Register, N: Nodes, P: Payloads, O: Sink>(
     alloc: Global,
     config: &Config,
@@ -117,9 +117,9 @@ pub fn append<G: Register, N: Nodes, P: Payloads, O: Sink>(
 ) -> (Ended, G)
     requires { IsSpec spec.now }
     // Where the nodes and the register tell what stands there: all that was done are steps of the written machine from any state
-    // without sequencers, and with nothing else set for the log's next activation, that they stand for: the activation of the log, and then round by round what is sent again, but in the
+    // without sequencers, and with nothing else set for the log's next activation, that they represent: the activation of the log, and then round by round what is sent again, but in the
     // first, appends, and visits of the configuration's nodes. The payloads that the machine took are the first ones that came,
-    // in their order; they are all where it is done, and where it comes to a line that is off. The lines that were written are
+    // in their order; they are all where it is done, and where it comes to a line with a syntax error. The lines that were written are
     // the sequencer's lines of those steps. A message to a node is lost only where a call of the nodes failed or a node had
     // ended, and an answer only where the sequencer doesn't take it. It never ends with `BadFrame`.
     ensures appended { (s : State) (far : Far) → IsInBounds config.now → IsSpecOf config.now spec.now → IsUnset config.now s spec.now → N.tells nodes.old config.now far → Begins (HasNone (G.tells register)) config.now s far
@@ -133,7 +133,7 @@ pub fn append<G: Register, N: Nodes, P: Payloads, O: Sink>(
     // It ends with `BadFrame` only by the fault that the nodes tell.
     ensures off { IsOffAs (N.off nodes.new) result.0 }
     // It ends with `Register` and `Failed` only where a call of the register failed. Where none failed and the register tells what
-    // it holds, it ends with `Register` and `Damaged` only where that was damaged from that place on, and with `Register` and
+    // it holds, it ends with `Register` and `Damaged` only where that was damaged from that offset on, and with `Register` and
     // `Full` only where it wasn't, and where what it holds then leaves no room for an activation or a close.
     ensures refused { IsRefused (λ place. G.told register → G.damaged register place) (G.told register → HoldsSome (G.holds register) × LacksRoom (G.holds result.1)) (G.faults register) (G.faults result.1) result.0 }
 {

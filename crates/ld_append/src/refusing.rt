@@ -68,7 +68,7 @@ fn end_by(answer: &Result<Report, SequencerFault>) -> Option<Ended>
     }
 }
 
-/// Why the register refused, where that is kept; else it is for want of memory.
+/// Why the register refused, where that is kept; else it is when out of memory.
 fn kept_end(kept: Option<Ended>) -> Ended
     ensures { result ≡ kept_end kept }
 {

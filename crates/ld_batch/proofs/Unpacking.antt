@@ -82,7 +82,7 @@ unpacked_again ms some most =
 
 -- ---- what is unpacked was packed ----
 
--- so many messages stand from a place on, and nothing else
+-- so many messages stand from an offset on, and nothing else
 record IsRest (k : ℕ) (bs : List ℕ) (at : ℕ) (ms : List (List ℕ)) : Type 0 where
   pub is : drop at bs ≡ packed_messages ms
   pub count : length ms ≡ k
@@ -183,7 +183,7 @@ pub with_no_more : (ms : List (List ℕ)) → with_all ms (Messages []) ≡ Mess
 with_no_more [] = refl
 with_no_more (x ∷ ms) = ap (with_first x) (with_no_more ms)
 
--- so many of the messages are read, up to a place
+-- so many of the messages are read, up to an offset
 pub record IsSoFar (bs : List ℕ) (count i at : ℕ) (ms : List (List ℕ)) : Type 0 where
   pub inside : at ≤ length bs
   pub long : length (packed ms) ≡ at

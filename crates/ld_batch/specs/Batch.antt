@@ -34,15 +34,15 @@ with_first m (Bad place) = Bad place
 abbrev pub number_at : List ℕ → ℕ → ℕ
 number_at bs at = get_or bs at 0 * 256 + get_or bs (at + 1) 0
 
--- the length at the place is cut, or the bytes that it counts are
+-- the length at the offset is cut, or the bytes that it counts are
 abbrev pub IsCutAt : List ℕ → ℕ → Type 0
 IsCutAt bs at = length bs < at + 2 + number_at bs at
 
--- the message whose length stands at the place
+-- the message whose length stands at the offset
 abbrev pub IsMessageAt : List ℕ → ℕ → List ℕ → Type 0
 IsMessageAt bs at m = (at + 2 + number_at bs at ≤ length bs) × (m ≡ take (number_at bs at) (drop (at + 2) bs))
 
--- so many messages stand from a place on, and nothing after them; one whose bytes are cut is off at its length
+-- so many messages stand from an offset on, and nothing after them; one whose bytes are cut is off at its length
 abbrev pub read_messages : ℕ → List ℕ → ℕ → Unpacked
 read_messages zero bs at = if nat_lt at (length bs) then Bad at else Messages []
 read_messages (suc k) bs at =

@@ -6,7 +6,7 @@ use Rattle.ld_batch.specs.declared.fault.UnpackFault.TheVariants as unpack_fault
 use Rattle.ld_batch.specs.declared.fault.PushFault.{PushFault}
 use Rattle.ld_batch.specs.declared.fault.PushFault.TheVariants as push_faults
 
--- no batch, and where it is off
+-- no batch, and where it has a syntax error
 abbrev pub IsNoBatch : Unpacked → UnpackFault → Type 0
 IsNoBatch found (unpack_faults.BadBatch place) = found ≡ Bad place
 IsNoBatch found unpack_faults.NoMemory = Unit {0}

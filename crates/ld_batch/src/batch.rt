@@ -49,7 +49,7 @@ impl Batch {
     }
 
     /// Adds a message at the end. It is refused with `TooLong` and the length that the payload would have exactly where
-    /// that is above 65,535 bytes, then with `Full` exactly where there are 1,024 messages, and then for want of memory. A
+    /// that is above 65,535 bytes, then with `Full` exactly where there are 1,024 messages, and then when out of memory. A
     /// refused message changes nothing.
     pub fn push(&mut self, message: &[u8]) -> Result<(), PushFault>
         ensures ok { OnOk result (self.new ≡ self.old ++ message.now ∷ []) }

@@ -10,7 +10,7 @@ use thiserror::Error;
 /// Why bytes aren't unpacked.
 #[derive(Clone, Copy, Debug, PartialEq, Eq, Error)]
 pub enum UnpackFault {
-    /// The bytes are no batch. The place is that of the first byte of the first field that is cut or out of its range, or
+    /// The bytes are no batch. The offset is that of the first byte of the first field that is cut or out of its range, or
     /// else of the first byte that is left over. A message whose bytes are cut is off at its length.
     #[error("no batch from byte {0} on")]
     BadBatch(usize),

@@ -8,7 +8,7 @@ use crate::messages::Messages;
 use ld_ids::Payload;
 use std::alloc::Global;
 
-/// The number of two bytes at the place, where they are there.
+/// The number of two bytes at the offset, where they are there.
 pub fn number_at(bytes: &[u8], at: usize) -> Option<u16>
     requires { at ≤ length bytes.now }
     ensures { MatchOption result (length bytes.now < at + 2) (λ number. (at + 2 ≤ length bytes.now) × (number ≡ number_at bytes.now at)) }
@@ -19,7 +19,7 @@ pub fn number_at(bytes: &[u8], at: usize) -> Option<u16>
     Some(u16::from(bytes[at]) * 256 + u16::from(bytes[at + 1]))
 }
 
-/// The message at the place, where its length and its bytes are there.
+/// The message at the offset, where its length and its bytes are there.
 fn message_at(bytes: &[u8], at: usize) -> Option<&[u8]>
     requires { at ≤ length bytes.now }
     ensures { MatchOption result (IsCutAt bytes.now at) (λ message. IsMessageAt bytes.now at message.now) }

@@ -1,4 +1,4 @@
--- Each step leaves the messages in their places, but for one that is no longer new; so new messages have places in every run.
+-- Each step leaves the messages in their places, but for one that is no longer new; so new messages have offsets in every run.
 use Rattle.std.proofs.Common.{◌≡◌, ℕ, refl, subst, sym, List, Option, Some, None, length, ◌<◌, ap, ◌∙◌}
 use Rattle.ld_config.specs.declared.config.Config.{Config}
 use Rattle.ld_msg.specs.declared.msg.Msg.{Msg}

@@ -46,7 +46,7 @@ items_length : (e : ℕ) (loss : Bool) (d : List Told) (ns : List ℕ) → lengt
 items_length e loss d [] = refl
 items_length e loss d (n ∷ ns) = ap suc (items_length e loss d ns)
 
--- each place between the floor and the top, and the bridge
+-- each offset between the floor and the top, and the bridge
 pub plan_most : (e n : ℕ) (loss : Bool) (d : List Told) → top_place d d ≤ n → length (plan e loss d).items ≤ n + 1
 unfolding plan plan_end
 plan_most e n loss d h =

@@ -22,7 +22,7 @@ EpochOf None o = Unit {0}
 EpochOf (Some last) None = ⊥
 EpochOf (Some last) (Some k) = epoch_in k.1 ≡ last.1
 
--- up to this place the last one is that one, of that epoch
+-- up to this offset the last one is that one, of that epoch
 pub record Looked (l : ℕ) (ks : List (List ℕ × Client)) (place : ℕ) (last : Option (ℕ × ℕ)) : Type 0 where
   pub found : last_client l (client_at last ks) (drop place ks) ≡ last_client l None ks
   pub epoch : EpochOf last (client_at last ks)

@@ -20,7 +20,7 @@ abbrev pub numbers_in : List (List ℕ × Following) → List ℕ
 numbers_in [] = []
 numbers_in (f ∷ fs) = f.1.reader.number ∷ numbers_in fs
 
--- each has its place as its number
+-- each has its offset as its number
 abbrev pub AreNumbered : List (List ℕ × Following) → Type 0
 AreNumbered fs = numbers_in fs ≡ numbers_from 0 (length fs)
 

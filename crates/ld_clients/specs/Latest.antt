@@ -24,7 +24,7 @@ abbrev pub client_at : Option (ℕ × ℕ) → List (List ℕ × Client) → Opt
 client_at None ks = None
 client_at (Some last) ks = slice_get ks last.0
 
--- the place and the epoch of the one of the greater epoch
+-- the offset and the epoch of the one of the greater epoch
 abbrev pub or_later : Option (ℕ × ℕ) → ℕ → ℕ → Option (ℕ × ℕ)
 or_later None place e = Some (place, e)
 or_later (Some last) place e = if nat_lt last.1 e then Some (place, e) else Some last

@@ -135,7 +135,7 @@ impl Client {
     }
 
     /// Sends again what is still wanted, looks again where no look succeeded at an epoch whose nodes have told all that they
-    /// can, and tries its close again. After want of memory it is of no use.
+    /// can, and tries its close again. After running out of memory it is of no use.
     pub(crate) fn retry<G: Register>(
         &mut self,
         alloc: Global,
@@ -158,7 +158,7 @@ impl Client {
         Ok(outcome)
     }
 
-    /// Does what a retry does, and tells the released number once more. After want of memory it is of no use.
+    /// Does what a retry does, and tells the released number once more. After running out of memory it is of no use.
     pub(crate) fn calm<G: Register>(
         &mut self,
         alloc: Global,
@@ -182,7 +182,7 @@ impl Client {
         Ok(outcome)
     }
 
-    /// Takes the message. After want of memory it is of no use.
+    /// Takes the message. After running out of memory it is of no use.
     pub(crate) fn on_reply<G: Register>(
         &mut self,
         alloc: Global,

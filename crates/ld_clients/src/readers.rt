@@ -23,7 +23,7 @@ use ld_register::Register;
 use std::alloc::Global;
 use std::marker::Model;
 
-/// Readers by name. The number of a reader is its place.
+/// Readers by name. The number of a reader is its offset.
 #[derive(Drop)]
 pub struct Readers {
     map: IndexMap<Name, Reader>,

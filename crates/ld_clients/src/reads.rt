@@ -74,7 +74,7 @@ impl Readers {
 
     /// The reader of the name looks at the epoch of its next number, and asks the nodes that the register shows for that
     /// number. One that isn't there or is finished does nothing. It is refused with `Register`, and `Failed` or `Damaged`,
-    /// as the look is, and for want of memory. Then all readers are as they were. A look changes nothing of the register.
+    /// as the look is, and when out of memory. Then all readers are as they were. A look changes nothing of the register.
     pub fn poll<G: Register>(
         &mut self,
         alloc: Global,
@@ -109,7 +109,7 @@ impl Readers {
     /// The reader of a number gets the message, writes the items that follow and sends its asks. One that isn't there or is
     /// finished does nothing. Where a round begins, it looks first at the epoch of its next number. It is refused with
     /// `Register`, and `Failed` or `Damaged`, as the look is: then all readers are as they were. A look changes nothing of the
-    /// register. After want of memory the readers are of no use.
+    /// register. After running out of memory the readers are of no use.
     pub fn on_reply<G: Register>(
         &mut self,
         alloc: Global,

@@ -56,7 +56,7 @@ pub fn refused(
     Ok(outcome)
 }
 
-/// The line of a refusal that isn't for want of memory.
+/// The line of a refusal that isn't when out of memory.
 fn refusal(name: Name, fault: &SequencerFault) -> Option<Line>
     ensures some { IfSome result (λ line. (line ∷ [] ≡ fault_lines name fault.now) × (fault.now ≢ SequencerFault.NoMemory)) }
     ensures none { IfNone result (fault.now ≡ SequencerFault.NoMemory) }

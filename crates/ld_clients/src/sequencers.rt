@@ -37,8 +37,8 @@ use std::marker::Model;
 /// How many bytes a payload has at most.
 const PAYLOAD_LIMIT: usize = 65_535;
 
-/// Sequencers by name. Of one that was dropped only the name, the log and the epoch are kept. After want of memory in a call
-/// they are of no use.
+/// Sequencers by name. Of one that was dropped only the name, the log and the epoch are kept. After running out of memory in
+/// a call they are of no use.
 #[derive(Drop)]
 pub struct Sequencers {
     map: IndexMap<Name, Client>,

@@ -22,7 +22,7 @@ use std::marker::Model;
 /// The nodes that a link reaches: a message is a frame, and so is an answer. What stands at them isn't told.
 ///
 /// Once a node sent what begins no frame, that is the answer until the next dial. After a `send` that was refused with
-/// `Link`, or a `receive` that was refused for want of memory, the node may have got, or sent, what is lost: then it has to
+/// `Link`, or a `receive` that was refused when out of memory, the node may have got, or sent, what is lost: then it has to
 /// be dialed again.
 #[derive(Drop)]
 pub struct Framed<L: Dial> {

@@ -44,7 +44,7 @@ pub trait Nodes {
         ensures endings { endings self.new ≡ endings self.old }
         ensures off { off self.new ≡ None };
 
-    /// Sends a message to the present node, whole. It is refused with `Link` where a call failed, and for want of memory: then
+    /// Sends a message to the present node, whole. It is refused with `Link` where a call failed, and when out of memory: then
     /// the node has not got it whole.
     fn send(&mut self, alloc: Global, message: &Msg) -> Result<(), Fault>
         requires { IsMessage message.now }
@@ -56,7 +56,7 @@ pub trait Nodes {
         ensures unheard { (fault : FrameFault) → result ≢ Err (Fault.BadFrame fault) };
 
     /// Takes the next answer of the present node. There is none where the node has ended, whatever part of a frame it sent
-    /// last. It is refused with `Link` where a call failed, with `BadFrame` where what it sent begins no frame, and for want of memory.
+    /// last. It is refused with `Link` where a call failed, with `BadFrame` where what it sent begins no frame, and when out of memory.
     fn receive(&mut self, alloc: Global) -> Result<Option<Msg>, Fault>
         ensures message { IfOk result (λ next. IfSome next IsMessage) }
         ensures counts { CountsFault (faults self.old) (faults self.new) result }

@@ -21,7 +21,7 @@ use Rattle.ld_table.proofs.Places.{drop_at_place}
 abbrev page_of : ℕ → ℕ → ℕ → ℕ → ℕ → ℕ → ℕ → List Entry → Told → Told
 page_of epoch good y from upto trim lng es t = if takes_page y from t then told_page epoch good upto trim lng es t else t
 
--- the digest's last known good place, a page counted
+-- the digest's last known good offset, a page counted
 abbrev pub good_with : List Told → ℕ → ℕ
 good_with d lng = max (digest_lng d) lng
 

@@ -7,7 +7,7 @@ use Rattle.ld_msg.specs.Sequencer.{takes_any, next_ask}
 use Rattle.ld_digest.specs.declared.added.Added.{Added}
 use Rattle.ld_digest.specs.declared.added.Added.TheVariants.{Ask, Whole, Ignored}
 
--- a node with a page more, where the page is its next one; good is the digest's last known good place, the page counted
+-- a node with a page more, where the page is its next one; good is the digest's last known good offset, the page counted
 abbrev pub page_added : ℕ → ℕ → ℕ → ℕ → ℕ → ℕ → List Entry → Told → Told
 page_added epoch good from upto trim lng es t = if takes_page t.node from t then told_page epoch good upto trim lng es t else t
 

@@ -17,16 +17,16 @@ with_told g told = record g { told = told }
 abbrev pub nodes_told : List Told → List ℕ
 nodes_told d = map (λ t. t.node) d
 
--- what stands at the place is the node's
+-- what stands at the offset is the node's
 abbrev pub IsNodeAt : List Told → ℕ → ℕ → Type 0
 IsNodeAt d place node = slice_get (nodes_told d) place ≡ Some node
 
--- the last place of the epoch is for a bridge alone
+-- the last offset of the epoch is for a bridge alone
 abbrev pub AreInPlace : List Entry → Type 0
 AreInPlace [] = Unit {0}
 AreInPlace (e ∷ es) = (is_bridge e.what ≡ false → esn_of e.number < last_esn) × AreInPlace es
 
--- so are the entries of a node, and its last known good place lies below the last one
+-- so are the entries of a node, and its last known good offset lies below the last one
 abbrev pub IsToldInPlace : Told → Type 0
 IsToldInPlace t = AreInPlace t.entries × (t.lng < last_esn)
 

@@ -3,7 +3,7 @@ use ld_lsn::Lsn;
 use ld_msg::Entries;
 
 /// A node's page: which entries of the epoch stand there from a number up to another, the node's
-/// trim, and the last known good place of the epoch that it was told.
+/// trim, and the last known good offset of the epoch that it was told.
 #[derive(Clone, Copy)]
 pub struct Page<'a> {
     pub from: Lsn,

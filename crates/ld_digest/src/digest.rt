@@ -93,7 +93,7 @@ impl Digest {
         None
     }
 
-    /// The greatest last known good place that a node has told, 0 where none has.
+    /// The greatest last known good offset that a node has told, 0 where none has.
     pub fn lng(&self) -> u32
         ensures value { result ≡ digest_lng self.now.told }
         ensures below { result < last_esn }
@@ -112,7 +112,7 @@ impl Digest {
 
     /// Adds a page of the node, where it begins at the number that the node was asked from last
     /// and the node isn't whole. The page ends before the greatest number, and of its entries only
-    /// a bridge may stand at the last place of an epoch. Without memory nothing changes.
+    /// a bridge may stand at the last offset of an epoch. Without memory nothing changes.
     pub fn add(&mut self, alloc: Global, node: NodeId, page: &Page) -> Result<Added, NoMemory>
         requires upto { page.now.upto < 2 ^ 64 - 1 }
         requires entries { AreInPlace page.now.entries.now }
@@ -194,7 +194,7 @@ impl Digest {
     }
 }
 
-// The greatest last known good place that a node has told.
+// The greatest last known good offset that a node has told.
 #[tactic(auto, unfolding(ld_msg::specs::Digest::digest_lng))]
 fn greatest_lng(told: &[Told]) -> u32
     ensures { result ≡ digest_lng told.now }
@@ -206,7 +206,7 @@ fn greatest_lng(told: &[Told]) -> u32
     greatest
 }
 
-// Each node is asked anew past a last known good place of the epoch.
+// Each node is asked anew past a last known good offset of the epoch.
 fn ask_each_anew(told: &mut Vec<Told>, epoch: u32, good: u32)
     requires { good < last_esn }
     ensures { told.new.items ≡ map (asked_anew epoch good) told.old.items }

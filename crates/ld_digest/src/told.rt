@@ -11,7 +11,7 @@ use ld_msg::Entry;
 use std::alloc::Global;
 use std::marker::Model;
 
-// The greatest place of an epoch.
+// The greatest offset of an epoch.
 const LAST_ESN: u32 = u32::MAX;
 
 /// Whether a page up to this number reaches the end of the epoch.
@@ -22,7 +22,7 @@ pub(crate) fn reaches_end(epoch: u32, upto: Lsn) -> bool
 }
 
 /// What one node has told: the number that it was asked from last, the entries, the trim and the
-/// last known good place of its pages, whether they reach the epoch's end, and whether it then said that it is lost.
+/// last known good offset of its pages, whether they reach the epoch's end, and whether it then said that it is lost.
 #[derive(Drop)]
 pub struct Told {
     node: NodeId,
@@ -94,7 +94,7 @@ impl Told {
         self.trim
     }
 
-    /// The greatest last known good place of its pages.
+    /// The greatest last known good offset of its pages.
     pub fn lng(&self) -> u32
         ensures { result ≡ self.now.lng }
     {
@@ -148,7 +148,7 @@ impl Told {
         Ok(())
     }
 
-    /// Adds the page, where it is the next one; `good` is the digest's last known good place, the page
+    /// Adds the page, where it is the next one; `good` is the digest's last known good offset, the page
     /// counted. Without memory nothing changes.
     pub fn add(
         &mut self,

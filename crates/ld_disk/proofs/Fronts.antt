@@ -25,7 +25,7 @@ painted_front picture arena k bytes (p ∷ ps) within behind =
     let later = painted_front picture arena k (made picture w bytes) ps (omega (arith, torn.no_shorter, within)) (omega (arith, behind)) in
     (later.0 ∙ torn_front_stays p.at (length w.1) k bytes (made picture w bytes) torn (omega (arith, behind)) within, later.1)
 
--- after a write at this place, in which the disk crashed or didn't
+-- after a write at this offset, in which the disk crashed or didn't
 pub written_front : (crash : Option Picture) (arena stable bytes once more after : List ℕ) (at k n : ℕ) (ps : List Piece) → take n bytes ≡ take n stable → n ≤ length bytes → n ≤ length stable
     → k ≡ min n at → k ≤ nearest k ps → once ≡ overwrite at more bytes → after ≡ read_after crash stable (pieces arena ps) once
     → (take k after ≡ take k stable) × (k ≤ length after)

@@ -8,7 +8,7 @@ use Rattle.ld_disk.specs.declared.entry.Piece.{Piece}
 use Rattle.ld_disk.specs.declared.entry.Entry.{Entry}
 use Rattle.ld_disk.specs.declared.entry.Entry.TheVariants as entries
 
--- a place, and the bytes that were written there
+-- an offset, and the bytes that were written there
 abbrev pub Write : Type 0
 Write = ℕ × List ℕ
 
@@ -101,7 +101,7 @@ only_last arena s (e ∷ es) c left = only_last arena (step arena s e) es c left
 abbrev pub state_of : List ℕ → List Write → List ℕ → State
 state_of stable pending bytes = record { stable = stable; pending = pending; bytes = bytes }
 
--- how many kept bytes these pieces need, and up to which place they write
+-- how many kept bytes these pieces need, and up to which offset they write
 abbrev pub needed : List Piece → ℕ
 needed [] = 0
 needed (p ∷ ps) = max (p.from + p.len) (needed ps)
@@ -110,7 +110,7 @@ abbrev pub farthest : List Piece → ℕ
 farthest [] = 0
 farthest (p ∷ ps) = max (p.at + p.len) (farthest ps)
 
--- the least of this place and those of these writes
+-- the least of this offset and those of these writes
 abbrev pub nearest : ℕ → List Piece → ℕ
 nearest n [] = n
 nearest n (p ∷ ps) = min p.at (nearest n ps)

@@ -54,7 +54,7 @@ pub trait Disk {
     /// For how many writing calls there is room.
     ghost room: { Self → ℕ };
 
-    /// Up to which place they may write.
+    /// Up to which offset they may write.
     ghost reach: { Self → ℕ };
 
     /// How often a call has failed, up to the greatest 64-bit number.
@@ -75,7 +75,7 @@ pub trait Disk {
         ensures itself { identity self.new ≡ identity self.old }
         ensures cause { HasCause (faults self.old) (faults self.new) result };
 
-    /// Writes over what is there, and past the end; a gap before the place reads as zeros.
+    /// Writes over what is there, and past the end; a gap before the offset reads as zeros.
     fn write_at(&mut self, at: u64, bytes: &[u8]) -> Result<(), Failed>
         requires room { 0 < room self.old }
         requires place { at + length bytes.now ≤ reach self.old }
@@ -110,7 +110,7 @@ pub trait Disk {
         ensures itself { identity self.new ≡ identity self.old }
         ensures cause { HasCause (faults self.old) (faults self.new) result };
 
-    /// Makes room for that many further calls of `write_at` and `sync`, the writes up to place `end`. It is the one
+    /// Makes room for that many further calls of `write_at` and `sync`, the writes up to offset `end`. It is the one
     /// call that takes memory, and a refusal changes nothing.
     fn reserve(&mut self, end: u64, calls: u64) -> Result<(), NoMemory>
         ensures room { OnOk result ((calls ≤ room self.new) × (end ≤ reach self.new)) }

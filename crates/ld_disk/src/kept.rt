@@ -207,7 +207,7 @@ impl Kept {
         self.bytes.len() as u64
     }
 
-    /// Makes room for that many further writing calls, the writes up to that place.
+    /// Makes room for that many further writing calls, the writes up to that offset.
     pub(crate) fn reserve(&mut self, end: u64, calls: u64) -> Result<(), NoMemory>
         ensures room { OnOk result ((calls ≤ self.new.room) × (end ≤ self.new.reach)) }
         ensures no_less { (self.old.room ≤ self.new.room) × (self.old.reach ≤ self.new.reach) }

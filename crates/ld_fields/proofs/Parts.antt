@@ -39,7 +39,7 @@ pub entries_done : (bs : List ℕ) (beside : Beside) (most n i least at : ℕ) (
 unfolding read_entries
 entries_done bs beside most n i least at acc h = ap (λ k. resumed acc (read_entries bs beside most (n - k) least at)) h ∙ (ap (λ k. resumed acc (read_entries bs beside most k least at)) (none_left n) ∙ done acc at)
 
--- a fault names the place of the part
+-- a fault names the offset of the part
 pub entries_fault : (bs : List ℕ) (beside : Beside) (most n i least at : ℕ) (acc : List Entry) (whole : Read (List Entry)) (e : FieldFault) → i < n → resumed acc (read_entries bs beside most (n - i) least at) ≡ whole → IsOff (read_entry bs beside most least at) e → IsOff whole e
 entries_fault bs beside most n i least at acc whole (Bad place) h w o = sym w ∙ entries_off bs beside most n i least at acc place h o
 entries_fault bs beside most n i least at acc whole NoMemory h w o = tt

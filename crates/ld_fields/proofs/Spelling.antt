@@ -18,7 +18,7 @@ use Rattle.ld_fields.specs.Fields.{Read, Got, Off, follow, check, field, within}
 use Rattle.ld_fields.specs.Items.{what_bytes, entry_bytes, entries_bytes, older_summary_bytes, summary_bytes, flag, greatest_epoch, greatest_lng, is_number, is_tag, may_stand, payload, tagged, read_entry, read_entries, read_older_summary, read_flag, with_loss, read_summary, read_log}
 use Rattle.ld_fields.proofs.There.{field_got}
 
--- from a place on the bytes are these
+-- from an offset on the bytes are these
 pub record Stands (bs : List ℕ) (at : ℕ) (xs : List ℕ) : Type 0 where
   pub within : at ≤ length bs
   pub there : drop at bs ≡ xs

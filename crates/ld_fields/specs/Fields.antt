@@ -2,7 +2,7 @@
 use Rattle.std.specs.Prelude.{ℕ, ◌+◌, List, length, drop, Bool, ◌&&◌, if◌then◌else◌, nat_le}
 use Rattle.byteorder.specs.Endian.{big_number}
 
--- a value, and the place behind it; or the place of the first field that is cut off or out of its range
+-- a value, and the offset behind it; or the offset of the first field that is cut off or out of its range
 pub data Read (X : Type 0) : Type 0 where
   Got : (value : X) (next : ℕ) → Read X
   Off : (place : ℕ) → Read X

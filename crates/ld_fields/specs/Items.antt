@@ -42,11 +42,11 @@ summary_bytes y = older_summary_bytes y ++ big_bytes 1 (flag y.loss)
 abbrev pub greatest_epoch : ℕ
 greatest_epoch = 2 ^ 32 - 2
 
--- a last known good place lies below the greatest place of an epoch
+-- a last known good offset lies below the greatest offset of an epoch
 abbrev pub greatest_lng : ℕ
 greatest_lng = last_esn - 1
 
--- the last place of an epoch is a bridge's alone, which the tag tells
+-- the last offset of an epoch is a bridge's alone, which the tag tells
 abbrev pub is_number : ℕ → Bool
 is_number n = within 1 greatest_epoch (epoch_of n) && nat_le 1 (esn_of n)
 

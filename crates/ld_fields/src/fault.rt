@@ -6,7 +6,7 @@ use ld_ids::NoMemory;
 /// Why a field was not read.
 #[derive(Clone, Copy)]
 pub enum FieldFault {
-    /// The first field that is cut off or out of its range begins at this place, or else the first byte that is too
+    /// The first field that is cut off or out of its range begins at this offset, or else the first byte that is too
     /// many stands there.
     Bad(u64),
     /// There is no memory left.

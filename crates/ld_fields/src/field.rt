@@ -7,7 +7,7 @@ use crate::FieldFault;
 use byteorder::{BigEndian, ByteOrder};
 use ld_lsn::Lsn;
 
-/// The byte at a place, and the place behind it.
+/// The byte at an offset, and the offset behind it.
 #[tactic(auto, using(crate::proofs::There::field_got, crate::proofs::There::field_off, crate::proofs::There::byte_is))]
 pub fn read_u8(bytes: &[u8], at: usize) -> Result<(u8, usize), FieldFault>
     requires { at ≤ length bytes.now }
@@ -21,7 +21,7 @@ pub fn read_u8(bytes: &[u8], at: usize) -> Result<(u8, usize), FieldFault>
     Ok((bytes[at], at + 1))
 }
 
-/// The number of two bytes at a place, and the place behind it.
+/// The number of two bytes at an offset, and the offset behind it.
 #[tactic(auto, using(crate::proofs::There::field_got, crate::proofs::There::field_off))]
 pub fn read_u16(bytes: &[u8], at: usize) -> Result<(u16, usize), FieldFault>
     requires { at ≤ length bytes.now }
@@ -35,7 +35,7 @@ pub fn read_u16(bytes: &[u8], at: usize) -> Result<(u16, usize), FieldFault>
     Ok((BigEndian::read_u16(rest(bytes, at)), at + 2))
 }
 
-/// The number of four bytes at a place, and the place behind it.
+/// The number of four bytes at an offset, and the offset behind it.
 #[tactic(auto, using(crate::proofs::There::field_got, crate::proofs::There::field_off))]
 pub fn read_u32(bytes: &[u8], at: usize) -> Result<(u32, usize), FieldFault>
     requires { at ≤ length bytes.now }
@@ -49,7 +49,7 @@ pub fn read_u32(bytes: &[u8], at: usize) -> Result<(u32, usize), FieldFault>
     Ok((BigEndian::read_u32(rest(bytes, at)), at + 4))
 }
 
-/// The number of eight bytes at a place, and the place behind it.
+/// The number of eight bytes at an offset, and the offset behind it.
 #[tactic(auto, using(crate::proofs::There::field_got, crate::proofs::There::field_off))]
 pub fn read_u64(bytes: &[u8], at: usize) -> Result<(u64, usize), FieldFault>
     requires { at ≤ length bytes.now }
@@ -63,7 +63,7 @@ pub fn read_u64(bytes: &[u8], at: usize) -> Result<(u64, usize), FieldFault>
     Ok((BigEndian::read_u64(rest(bytes, at)), at + 8))
 }
 
-/// The number of an entry at a place, and the place behind it.
+/// The number of an entry at an offset, and the offset behind it.
 pub fn read_number(bytes: &[u8], at: usize) -> Result<(Lsn, usize), FieldFault>
     requires { at ≤ length bytes.now }
     ensures ok { IfOk result (λ p. field 8 bytes.now at ≡ Got p.0 p.1) }
@@ -74,7 +74,7 @@ pub fn read_number(bytes: &[u8], at: usize) -> Result<(Lsn, usize), FieldFault>
     Ok((Lsn::from_u64(number), next))
 }
 
-/// Charges a field that is out of its range to its place.
+/// Charges a field that is out of its range to its offset.
 pub fn check(ok: bool, at: usize) -> Result<(), FieldFault>
     ensures ok { OnOk result (ok ≡ true) }
     ensures off { IfErr result (λ e. (ok ≡ false) × (e ≡ FieldFault.Bad at)) }
@@ -86,7 +86,7 @@ pub fn check(ok: bool, at: usize) -> Result<(), FieldFault>
     }
 }
 
-/// What stands from a place on.
+/// What stands from an offset on.
 fn rest(bytes: &[u8], at: usize) -> &[u8]
     requires { at ≤ length bytes.now }
     ensures { result.now ≡ drop at bytes.now }

@@ -12,7 +12,7 @@ use ld_lsn::Lsn;
 use ld_msg::{Entry, Summary, What};
 use std::alloc::Global;
 
-/// The log at a place.
+/// The log at an offset.
 pub fn read_log(bytes: &[u8], at: usize) -> Result<(LogId, usize), FieldFault>
     requires { at ≤ length bytes.now }
     ensures ok { IfOk result (λ p. read_log bytes.now at ≡ Got p.0 p.1) }
@@ -26,7 +26,7 @@ pub fn read_log(bytes: &[u8], at: usize) -> Result<(LogId, usize), FieldFault>
     }
 }
 
-/// The summary of the epoch at a place, in its older form, which says nothing of a loss.
+/// The summary of the epoch at an offset, in its older form, which says nothing of a loss.
 #[tactic(auto, unfolding(crate::specs::Items::read_older_summary))]
 pub fn read_older_summary(
     bytes: &[u8],
@@ -57,7 +57,7 @@ pub fn read_older_summary(
     ))
 }
 
-/// The summary of the epoch at a place.
+/// The summary of the epoch at an offset.
 #[tactic(auto, unfolding(crate::specs::Items::read_summary))]
 pub fn read_summary(bytes: &[u8], epoch: u32, at: usize) -> Result<(Summary, usize), FieldFault>
     requires { at ≤ length bytes.now }
@@ -70,7 +70,7 @@ pub fn read_summary(bytes: &[u8], epoch: u32, at: usize) -> Result<(Summary, usi
     Ok((Summary { loss, ..summary }, next))
 }
 
-/// The byte at a place, 1 for true and 0 for false.
+/// The byte at an offset, 1 for true and 0 for false.
 pub fn read_flag(bytes: &[u8], at: usize) -> Result<(bool, usize), FieldFault>
     requires { at ≤ length bytes.now }
     ensures ok { IfOk result (λ p. read_flag bytes.now at ≡ Got p.0 p.1) }
@@ -82,7 +82,7 @@ pub fn read_flag(bytes: &[u8], at: usize) -> Result<(bool, usize), FieldFault>
     Ok((byte == 1, next))
 }
 
-/// The entry at a place, its number between two others, and what may stand beside records, holes and plugs.
+/// The entry at an offset, its number between two others, and what may stand beside records, holes and plugs.
 #[tactic(auto, unfolding(crate::specs::Items::read_entry))]
 pub fn read_entry(
     alloc: Global,
@@ -146,7 +146,7 @@ pub fn is_tag(number: Lsn, tag: u8) -> bool
     tag <= 4 && (number.esn() < u32::MAX || tag == 2)
 }
 
-/// What stands behind a tag at a place.
+/// What stands behind a tag at an offset.
 pub fn read_what(
     alloc: Global,
     bytes: &[u8],

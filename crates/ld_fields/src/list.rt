@@ -10,7 +10,7 @@ use ld_lsn::Lsn;
 use ld_msg::Entries;
 use std::alloc::Global;
 
-/// So many entries at a place, their numbers rising from one to another, and what may stand beside records, holes and plugs.
+/// So many entries at an offset, their numbers rising from one to another, and what may stand beside records, holes and plugs.
 pub fn read_entries(
     alloc: Global,
     bytes: &[u8],

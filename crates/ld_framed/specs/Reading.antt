@@ -8,7 +8,7 @@ use Rattle.ld_wire.specs.declared.fault.WireFault.{WireFault}
 use Rattle.ld_framed.specs.declared.unread.Unread.{Unread}
 use Rattle.ld_framed.specs.declared.unread.Unread.TheVariants.{NoMemory, Link, BadFrame}
 
--- no frame could be taken of the bytes that are held: for want of memory, or of more bytes as the link failed, or since they begin none
+-- no frame could be taken of the bytes that are held: when out of memory, or of more bytes as the link failed, or since they begin none
 abbrev pub IsUnread : List ℕ → Unread → Type 0
 IsUnread held NoMemory = Unit {0}
 IsUnread held Link = Unit {0}

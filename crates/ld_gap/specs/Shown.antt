@@ -1,4 +1,4 @@
--- What a verdict of the code stands for.
+-- What a verdict of the code represents.
 use Rattle.ld_lsn.specs.Number.{epoch_end}
 use Rattle.ld_msg.specs.Reading as reading
 use Rattle.ld_gap.specs.declared.verdict.Item.{Item}

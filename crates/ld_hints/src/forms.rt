@@ -135,7 +135,7 @@ pub const FORMS: [Form; 24] = [
     },
 ];
 
-/// Whether the line may have meant an event of this form: its bytes before the place are the beginning of the form's
+/// Whether the line may have meant an event of this form: its bytes before the offset are the beginning of the form's
 /// word, or they begin with that word and a blank.
 pub fn is_meant(form: &Form, line: &[u8], place: usize) -> bool {
     let word = form.word.as_bytes();

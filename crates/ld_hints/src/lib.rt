@@ -1,5 +1,5 @@
-//! What a person is told of a line of the input that is off: the line, the place, and how the events that it may have
-//! meant are spelt.
+//! What a person is told of a line of the input with a syntax error: the line, the offset, and how the events that it may
+//! have meant are spelt.
 #![tactic(auto)]
 
 mod forms;

@@ -1,9 +1,9 @@
-// A line that is off, as a person is shown it.
+// A line with a syntax error, as a person is shown it.
 use crate::forms::{FORMS, is_meant};
 use std::alloc::{AllocError, Global};
 use std::fmt::Write;
 
-/// How many bytes of a line are shown before its place, and how many from it on.
+/// How many bytes of a line are shown before its offset, and how many from it on.
 const BEFORE: usize = 50;
 
 const BEHIND: usize = 20;
@@ -11,7 +11,7 @@ const BEHIND: usize = 20;
 /// From how many events on only their words are told.
 const FEW: usize = 4;
 
-/// The line with a mark under the place, counted from 0, and below it how the events that it may have meant are spelt:
+/// The line with a mark under the offset, counted from 0, and below it how the events that it may have meant are spelt:
 /// lines of text, each ended. Bytes that aren't printed as one sign are shown as `?`.
 pub fn explain(alloc: Global, line: &[u8], place: usize) -> Result<String, AllocError> {
     let mut text = String::new(alloc);
@@ -30,7 +30,7 @@ pub fn explain(alloc: Global, line: &[u8], place: usize) -> Result<String, Alloc
     Ok(text)
 }
 
-/// The bytes round the place, and a mark under it.
+/// The bytes round the offset, and a mark under it.
 fn show(text: &mut String, line: &[u8], place: usize) -> Result<(), AllocError> {
     let begin = place.saturating_sub(BEFORE);
     let part = match line.get(begin..) {

@@ -136,7 +136,7 @@ changes_of : (op : Option Op) → ((o : Op) → op ≡ Some o → IsChange o) �
 changes_of None each = tt
 changes_of (Some o) each = each o refl
 
--- an index and the plain state that it stands for have the same summaries
+-- an index and the plain state that it represents have the same summaries
 summaries_told : (told : Option (List ℕ)) (index : Plain) (l : ℕ) → (log_of (told_plain told index) l).summaries ≡ (log_of index l).summaries
 summaries_told None index l = refl
 summaries_told (Some bytes) index l = ap (λ h. h.summaries) (log_same (byte_at bytes) index l)

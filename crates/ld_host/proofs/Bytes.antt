@@ -1,4 +1,4 @@
--- What the bytes on a host's disk stand for.
+-- What the bytes on a host's disk represent.
 use Rattle.std.proofs.Common.{◌≡◌, ℕ, None, sym, ◌∙◌, subst}
 use Rattle.ld_disk.specs.Plain.{Plain as DiskPlain}
 use Rattle.ld_segment.specs.Lies.{StandsFor}

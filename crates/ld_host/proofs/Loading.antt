@@ -21,7 +21,7 @@ use Rattle.ld_host.proofs.Fates.{AllMade, Stops, after_one, stopped_sync, sync_s
 use Rattle.ld_host.proofs.Keeping.{made_whole}
 use Rattle.ld_host.proofs.Versions.{laid_ops, laid_sound}
 
--- the bytes lie as what a load finds, and stand for it
+-- the bytes lie as what a load finds, and represent it
 pub record Finds (bytes : List ℕ) (p : Plain) (y : Layout) : Type 0 where
   pub slots : Slots
   pub lies : LiesAs (written y) y slots bytes

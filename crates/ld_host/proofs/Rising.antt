@@ -56,7 +56,7 @@ module _ (c : Config) (n : ℕ) (p : DiskPlain) (x : Node) (lies : Lies p x) whe
   made_all : succeeds p ≡ true → AllMade one_sync x.fault p
   made_all works = ⊎_elim (λ made. made) (λ stops. absurd (true≢false (sym works ∙ (sym (succeeds_one None p) ∙ stops.succeed)))) (fates one_sync x.fault p lies.armed)
 
-  -- the bytes stand for what is found
+  -- the bytes represent what is found
   pub stands_found : StandsFor (found x x.cut) p.state.bytes
   stands_found = stands_for p.state.bytes (found x x.cut) (found_layout x x.cut) (finds p x lies)
 

@@ -12,7 +12,7 @@ use Rattle.ld_segment.specs.Lies.{Slots, LiesAs, IsSound, MayKeep, written, op_r
 use Rattle.ld_machine.specs.Disk.{Node, Cut}
 use Rattle.ld_host.specs.Faults.{pictures_of, IsArmed}
 
--- all that is read is safe, lies as the layout says, with these slots, and stands for this plain state
+-- all that is read is safe, lies as the layout says, with these slots, and represents this plain state
 pub record IsWhole (y : Layout) (z : Slots) (p : Plain) (s : State) : Type 0 where
   pub lies : LiesAs (written y) y z s.bytes
   pub sound : IsSound y

@@ -83,7 +83,7 @@ shown_status statuses.Up = Up
 shown_status statuses.Down = Down
 shown_status statuses.Failed = Failed
 
--- there is a disk, and its bytes stand for this plain state
+-- there is a disk, and its bytes represent this plain state
 abbrev pub HasBytesOf : Plain → Option MemDisk → Type 0
 HasBytesOf p None = ⊥
 HasBytesOf p (Some m) = StandsFor p (disk_plain m).state.bytes

@@ -93,8 +93,8 @@ impl NodeSet {
         false
     }
 
-    /// The node at the place, counted from 0, among the set's nodes in rising order; None exactly
-    /// where the place is not below the number of nodes.
+    /// The node at the offset, counted from 0, among the set's nodes in rising order; None exactly
+    /// where the offset is not below the number of nodes.
     pub fn nth(&self, place: usize) -> Option<NodeId>
         ensures node { result ≡ slice_get (members self.now) place }
         ensures set { IsSet self.now }

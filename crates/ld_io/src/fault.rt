@@ -1,8 +1,8 @@
-// What every part of the outside answers where a call fails, or where memory ends.
+// What every part of the environment answers where a call fails, or where memory ends.
 use std::alloc::{AllocError, AllocFailed};
 use thiserror::Error;
 
-/// A call on the outside failed.
+/// A call on the environment failed.
 #[derive(Clone, Copy, Debug, PartialEq, Eq, Error)]
 #[error("a call on the outside failed")]
 pub struct Failed;

@@ -1,4 +1,4 @@
-//! Where bytes come from and go to, with the faults of both counted, and what the calls of the outside answer.
+//! Where bytes come from and go to, with the faults of both counted, and what the calls of the environment answer.
 #![tactic(auto)]
 
 ghost use Rattle.std.specs.Prelude.{◌≡◌, ◌-◌, ◌<◌, ◌^◌, ◌++◌, List, ℕ, length, take, Option, MatchResult, IfOk, OnOk, IfSome};

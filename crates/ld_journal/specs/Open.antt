@@ -10,7 +10,7 @@ module _ {D : Type 0} where
   abbrev pub disk_of : Journal D → D
   disk_of journal = journal.disk
 
-  -- the place of the gate behind the bodies that were given
+  -- the offset of the gate behind the bodies that were given
   abbrev pub place_of : Journal D → ℕ
   place_of journal = journal.at
 

@@ -39,6 +39,6 @@ abbrev pub crashed_by : List Picture → State → State
 crashed_by [] s = s
 crashed_by (picture ∷ pictures) s = synced (Some picture) (crashed_by pictures s)
 
--- the bytes after an append at this place
+-- the bytes after an append at this offset
 abbrev pub appended : ℕ → List ℕ → List ℕ → List ℕ
 appended place body bytes = overwrite place (1 ∷ []) (overwrite (place + 1) (behind body) bytes)

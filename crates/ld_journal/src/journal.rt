@@ -118,7 +118,7 @@ impl<D: Disk> Journal<D> {
     /// Puts the next body in the place of `body`. False where all bodies were given.
     ///
     /// It refuses with `Disk` where a call of the disk failed, and from then on with `NeedsLoad`; with
-    /// `Damaged(place)` where the record at that place is cut short by the disk's end; and with `NoMemory`. After a
+    /// `Damaged(place)` where the record at that offset is cut short by the disk's end; and with `NoMemory`. After a
     /// refusal other than `Disk` the next call reads the same record again.
     pub fn next_body(&mut self, body: &mut Vec<u8>) -> Result<bool, JournalFault>
         ensures gives { result ≡ Ok true → (bodies : List (List ℕ)) (rest : List ℕ) → HasGiven D.seen D.may_leave self.old bodies rest
@@ -130,7 +130,7 @@ impl<D: Disk> Journal<D> {
 
         ensures exact { (p : Plain) → D.plain (disk_of self.old) ≡ Some p → reads_fine p ≡ true
             → (D.plain (disk_of self.new) ≡ Some p) × (result ≢ Err JournalFault.Disk) }
-        // Another refusal than `Disk` changes nothing, and want of memory leaves `body` too.
+        // Another refusal than `Disk` changes nothing, and running out of memory leaves `body` too.
         ensures keeps { (bodies : List (List ℕ)) (rest : List ℕ) → HasGiven D.seen D.may_leave self.old bodies rest
             → OnErr result (IsErrOf result JournalFault.Disk ⊎ HasGiven D.seen D.may_leave self.new bodies rest) }
         ensures untouched { IsErrOf result JournalFault.NoMemory ⊎ (result ≡ Ok false) → body.new.items ≡ body.old.items }
@@ -178,7 +178,7 @@ impl<D: Disk> Journal<D> {
         }
     }
 
-    /// Reads what stands from a place of the disk on: fills all of `buf` that lies before the disk's end, and says how
+    /// Reads what stands from an offset of the disk on: fills all of `buf` that lies before the disk's end, and says how
     /// much that is.
     ///
     /// It refuses with `Disk` where a call of the disk failed, and from then on each call answers `NeedsLoad`.
@@ -213,7 +213,7 @@ impl<D: Disk> Journal<D> {
         }
     }
 
-    /// The place of the gate behind the bodies that were given.
+    /// The offset of the gate behind the bodies that were given.
     pub fn place(&self) -> u64
         ensures { result ≡ place_of self.now }
     {

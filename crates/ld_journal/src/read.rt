@@ -14,7 +14,7 @@ use std::alloc::AllocError;
 
 const OPEN: u8 = 1;
 
-/// What stands at a record's place.
+/// What stands at a record's offset.
 #[derive(Clone, Copy)]
 pub(crate) enum Head {
     /// A gate that ends the journal.
@@ -51,7 +51,7 @@ pub fn settle<D: Disk>(disk: &mut D) -> Result<u64, JournalFault>
     Ok(len)
 }
 
-/// Reads the gate at a place, and the length behind it.
+/// Reads the gate at an offset, and the length behind it.
 #[tactic(auto, using(ld_disk::proofs::Fine::fine_reads))]
 pub(crate) fn read_head<D: Disk>(disk: &mut D, at: u64) -> Result<Head, JournalFault>
     ensures shut { result ≡ Ok Head.Shut → (front rest : List ℕ) → IsParted D.seen disk.old at front rest → IsShut rest }
@@ -140,7 +140,7 @@ fn read_body<D: Disk>(
     Ok(())
 }
 
-/// Reads the record at a place, and gives the place behind it; `None` where a gate there ends the journal.
+/// Reads the record at an offset, and gives the offset behind it; `None` where a gate there ends the journal.
 pub fn read_record<D: Disk>(
     disk: &mut D,
     at: u64,

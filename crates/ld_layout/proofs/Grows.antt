@@ -9,7 +9,7 @@ use Rattle.ld_table.specs.Words.{is_in}
 use Rattle.ld_layout.specs.Areas.{IsInside, IsHeld}
 use Rattle.ld_layout.specs.Layout.{Layout, Segment, closed_areas, gate_of, is_first, later_with, with_record, IfSegment, IsLaid}
 
--- the place behind the ending gate, once a record stands there
+-- the offset behind the ending gate, once a record stands there
 abbrev grown : Layout → ℕ → Option Segment → List (ℕ × ℕ)
 grown y body None = (0, y.end + record_length body + 1) ∷ []
 grown y body (Some g) = put g.place (g.end + record_length body + 1 - g.place) g.areas
@@ -52,7 +52,7 @@ old_inside y body (Some g) ks is one = ⊎_elim
     })
     (put_cases one.place g.place (g.end + 1 - g.place) g.areas)
 
--- places of the record
+-- offsets of the record
 abbrev pub AreOfRecord : Layout → ℕ → Option Segment → List ℕ → Type 0
 AreOfRecord y body g ks = (k : ℕ) → is_in k ks ≡ true → (gate_of y g ≤ k) × (k < gate_of y g + record_length body)
 

@@ -1,4 +1,4 @@
--- Whether one of some places lies in an area.
+-- Whether one of some offsets lies in an area.
 use Rattle.std.proofs.Common.{◌≡◌, ◌<◌, ◌≤◌, ◌+◌, ◌-◌, ◌||◌, ℕ, zero, suc, Bool, true, false, List, [], ◌∷◌, ◌++◌, Result, IfOk, refl, ap, sym, ◌∙◌, subst, length, slice_index, nat_lt, arith}
 use Rattle.std.proofs.lemmas.Bool.{or_left, or_right}
 use Rattle.std.proofs.lemmas.Bool.Decides.{nat_tests}

@@ -68,7 +68,7 @@ live_shrunk kept areas ordered shrunk live = record {
       ⊎_elim (λ before. inl (omega (arith, before, here.longer))) (λ behind. inr (omega (arith, behind, there.longer))) (live.apart k l here.here there.here here.found there.found other);
 }
 
--- the new area at the least place, and older ones that were live, or a front of them
+-- the new area at the least offset, and older ones that were live, or a front of them
 pub live_next : (size length : ℕ) (kept areas : List (ℕ × ℕ)) → length ≤ size → Ordered kept → AreShrunk kept areas → AreLive areas → AreLive (put (least_place size 0 areas) length kept)
 live_next size length kept areas short ordered shrunk live =
     let place = least_place size 0 areas in

@@ -116,7 +116,7 @@ module _ (y : Layout) (cause room : ℕ) (laid : IsLaid y) (less : room ≤ caus
   new_live : AreLive (put (least_place size 0 live) (g.limit - g.place) (put 0 (head_end y.end) areas))
   new_live = live_next size (g.limit - g.place) (put 0 (head_end y.end) areas) live long (Ordered-put 0 (head_end y.end) areas areas_ordered) shrunk laid.live
 
-  -- the place isn't 0, where the first segment stands
+  -- the offset isn't 0, where the first segment stands
   pub behind : 0 < least_place size 0 live
   behind = past_first size (least_place size 0 live) (head_end y.end) (free_of_each size (least_place size 0 live) 0 (head_end y.end) live (is_free size 0 0 live (rise_of live laid.live.ordered)) (first_live y y.later laid.segment))
       (omega arith) (omega arith)

@@ -75,7 +75,7 @@ record_within ops end (Some g) index body is_op w s p =
 
 -- ---- a switch ----
 
--- areas that begin with one from place 0 on
+-- areas that begin with one from offset 0 on
 record BeginWith (h : ℕ) (areas : List (ℕ × ℕ)) : Type 0 where
   rest : List (ℕ × ℕ)
   is : areas ≡ (0, h) ∷ rest

@@ -29,7 +29,7 @@ judge_base bs =
     follow (field 1 bs 0) (λ kind at. check ((kind == 9) || (kind == 13)) 0 (
     follow (read_index bs (kind == 9) at) (λ index at_areas. follow (read_table bs (read_area bs) at_areas) (λ areas next. end_at bs next (record { kind = kind; index = index; areas = areas })))))
 
--- a place and a length that fit their fields
+-- an offset and a length that fit their fields
 pub record IsBasedArea (a : ℕ × ℕ) : Type 0 where
   pub place : Is64 a.0
   pub length : Is64 a.1

@@ -11,7 +11,7 @@ use Rattle.ld_op.specs.Plain.{Plain, Log, unformatted, apply, op_length}
 use Rattle.ld_op.specs.Cells.{placed}
 use Rattle.ld_layout.specs.Areas.{is_inside, least_place, AreLive, IsHeld}
 
--- a later segment: its place, the entries of its Base, the op records after it, its ending gate, the place behind its area, the older areas in which its entries' payloads stand, by place with their lengths,
+-- a later segment: its offset, the entries of its Base, the op records after it, its ending gate, the offset behind its area, the older areas in which its entries' payloads stand, by offset with their lengths,
 -- and how many switches there were
 pub record Segment : Type 0 where
   pub place : ℕ
@@ -39,7 +39,7 @@ full_ops = 64
 abbrev pub least_room : ℕ
 least_room = 131072
 
--- the place behind the first segment and the head: its record and two slots
+-- the offset behind the first segment and the head: its record and two slots
 abbrev pub head_end : ℕ → ℕ
 head_end end = end + 15 + 34
 
@@ -66,7 +66,7 @@ abbrev pub entries_based : List (ℕ × Entry) → ℕ
 entries_based [] = 0
 entries_based (e ∷ es) = based_length e.1.what + entries_based es
 
--- what a log takes: its fields, summaries, last known good places and entries
+-- what a log takes: its fields, summaries, last known good offsets and entries
 abbrev pub log_based : Log → ℕ
 log_based g = 33 + (25 * length g.summaries + (8 * length g.lngs + entries_based g.entries))
 

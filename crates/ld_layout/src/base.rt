@@ -171,7 +171,7 @@ fn after_place(place: u64) -> u128
     u128::from(place) + 1
 }
 
-/// An area, its place at least the least.
+/// An area, its offset at least the least.
 #[tactic(auto, unfolding(crate::specs::Base::read_area))]
 fn read_area(bytes: &[u8], least: u128, at: usize) -> Result<((u64, u64), usize), FieldFault>
     requires { at ≤ length bytes.now }

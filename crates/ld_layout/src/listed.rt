@@ -1,4 +1,4 @@
-// Areas by place.
+// Areas by offset.
 ghost use Rattle.std.specs.Prelude.{◌≡◌, ◌≤◌, ◌<◌, ◌+◌, ◌^◌, [], ◌++◌, ℕ, length, slice_index, filter, nat_le, if◌then◌else◌, Some, true, false, OnOk, IfOk, IfSome, IfNone};
 ghost use Rattle.ld_table.specs.Table.{find, put, Ordered};
 ghost use Rattle.ld_table.specs.Words.{any_of};
@@ -12,7 +12,7 @@ use std::alloc::Global;
 use std::collections::BTreeMap;
 use std::marker::Model;
 
-/// Areas of a disk by place, each with its length.
+/// Areas of a disk by offset, each with its length.
 #[derive(Drop)]
 pub struct Areas {
     map: BTreeMap<u64, u64>,
@@ -36,7 +36,7 @@ impl Areas {
         }
     }
 
-    /// The areas by place.
+    /// The areas by offset.
     pub(crate) fn all(&self) -> &BTreeMap<u64, u64>
         ensures entries { result.now.entries ≡ self.now }
         ensures ordered { Ordered self.now }
@@ -53,7 +53,7 @@ impl Areas {
         self.map.len()
     }
 
-    /// Adds an area, or gives the one that begins at the place another length. Without memory nothing changes.
+    /// Adds an area, or gives the one that begins at the offset another length. Without memory nothing changes.
     pub fn add(&mut self, place: u64, length: u64) -> Result<(), NoMemory>
         ensures { OnOk result (self.new ≡ put place length self.old) }
     {
@@ -61,7 +61,7 @@ impl Areas {
         Ok(())
     }
 
-    /// Whether each area ends at a place or before it.
+    /// Whether each area ends at an offset or before it.
     pub fn lie_within(&self, end: u64) -> bool
         ensures within { result ≡ true → (place size : ℕ) → find place self.now ≡ Some size → place + size ≤ end }
         ensures past { result ≡ false → (place : ℕ) × (size : ℕ) × (find place self.now ≡ Some size) × (end < place + size) }
@@ -96,7 +96,7 @@ pub fn used(alloc: Global, index: &Plain, areas: &Areas) -> Result<Areas, NoMemo
     holding(alloc, starts.as_slice(), areas)
 }
 
-/// The areas in which one of the places lies, which rise.
+/// The areas in which one of the offsets lies, which rise.
 fn holding(alloc: Global, starts: &[u64], areas: &Areas) -> Result<Areas, NoMemory>
     requires { IsNonDecreasing starts.now }
     ensures { IfOk result (λ found. found ≡ filter (λ a. any_of (λ k. is_inside a k) starts.now) areas.now) }
@@ -120,7 +120,7 @@ fn add_if(holds: bool, areas: &mut Areas, place: u64, length: u64) -> Result<(),
     }
 }
 
-/// Whether one of the places lies in the area. They rise.
+/// Whether one of the offsets lies in the area. They rise.
 fn holds_one(starts: &[u64], place: u64, length: u64) -> bool
     requires { IsNonDecreasing starts.now }
     ensures { result ≡ any_of (λ k. is_inside (place, length) k) starts.now }
@@ -132,7 +132,7 @@ fn holds_one(starts: &[u64], place: u64, length: u64) -> bool
     starts[first] - place < length
 }
 
-/// How many of the places lie before one. They rise.
+/// How many of the offsets lie before one. They rise.
 fn first_from(starts: &[u64], place: u64) -> usize
     requires { IsNonDecreasing starts.now }
     ensures most { result ≤ length starts.now }
@@ -152,7 +152,7 @@ fn first_from(starts: &[u64], place: u64) -> usize
     from
 }
 
-/// The least place at which so many bytes overlap none of the areas, where it is a number of 64 bits.
+/// The least offset at which so many bytes overlap none of the areas, where it is a number of 64 bits.
 pub(crate) fn least_place_among(size: u64, areas: &Areas) -> Option<u64>
     ensures some { IfSome result (λ place. place ≡ least_place size 0 areas.now) }
     ensures none { IfNone result (2 ^ 64 ≤ least_place size 0 areas.now) }

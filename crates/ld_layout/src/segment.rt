@@ -22,10 +22,10 @@ pub const FULL_OPS: u64 = 64;
 /// The least space for records in a later segment, in bytes. The record that began the segment has room even where it is longer.
 pub const LEAST_ROOM: u64 = 131_072;
 
-/// The limit of a journal: no record and no area passes this place of its disk, in bytes.
+/// The limit of a journal: no record and no area passes this offset of its disk, in bytes.
 pub const LIMIT: u64 = 1 << 40;
 
-/// A later segment: its place, the entries of its Base, the op records behind it, its ending gate, the place behind its
+/// A later segment: its offset, the entries of its Base, the op records behind it, its ending gate, the offset behind its
 /// area, the older areas in which payloads of its entries stand, and how many switches there were.
 #[derive(Drop)]
 pub struct Segment {
@@ -147,7 +147,7 @@ pub fn base_length(index: &Plain, areas: &Areas) -> u64
         .saturating_add(5)
 }
 
-/// The least place for a segment with a Base and room for a record of so many bytes each, and the place behind its area,
+/// The least offset for a segment with a Base and room for a record of so many bytes each, and the offset behind its area,
 /// where that isn't past the limit.
 fn placed(base: u64, cause: u64, live: &Areas) -> Option<(u64, u64)>
     requires base { base < 2 ^ 32 }
@@ -171,7 +171,7 @@ fn placed(base: u64, cause: u64, live: &Areas) -> Option<(u64, u64)>
 }
 
 impl Segment {
-    /// The segment at a place behind whose Base, of so many bytes, no op record is read yet, and whose area has room for a
+    /// The segment at an offset behind whose Base, of so many bytes, no op record is read yet, and whose area has room for a
     /// first record of so many bytes; none where that would be past the limit.
     pub fn behind_base(
         place: u64,

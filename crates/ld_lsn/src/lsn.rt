@@ -7,7 +7,7 @@ use itoa::Buffer;
 use std::marker::Model;
 
 /// A log sequence number (LSN) of 64 bits: the epoch in the upper 32, the epoch sequence number
-/// (ESN), which is the place in the epoch, in the lower 32. Numbers are ordered as their 64 bits.
+/// (ESN), which is the offset in the epoch, in the lower 32. Numbers are ordered as their 64 bits.
 #[derive(Clone, Copy, Debug, PartialEq, Eq, PartialOrd, Ord)]
 pub struct Lsn {
     number: u64,
@@ -26,7 +26,7 @@ impl Model for Lsn {
 }
 
 impl Lsn {
-    /// The number at this place (ESN) of the epoch.
+    /// The number at this offset (ESN) of the epoch.
     pub fn new(epoch: u32, esn: u32) -> Lsn
         ensures { result ≡ numbered epoch esn }
     {
@@ -56,16 +56,16 @@ impl Lsn {
         (self.number / 0x1_0000_0000) as u32
     }
 
-    /// The place in the epoch.
+    /// The offset in the epoch.
     pub fn esn(&self) -> u32
         ensures { result ≡ esn_of self.now }
     {
         (self.number % 0x1_0000_0000) as u32
     }
 
-    /// The epoch that the number belongs to, and its place there.
+    /// The epoch that the number belongs to, and its offset there.
     ///
-    /// The number with ESN 0 of an epoch from 1 on belongs to the epoch before it, at the place
+    /// The number with ESN 0 of an epoch from 1 on belongs to the epoch before it, at the offset
     /// 2^32, past all others. Each other number belongs to its own epoch, at its ESN.
     pub fn home(&self) -> (u32, u64)
         ensures epoch { result.0 ≡ home_epoch self.now }

@@ -255,7 +255,7 @@ item w l n b = if b == epoch_of n then append_in l n w.state.network.sent else i
 abbrev pub plan_trim : ℕ → List Told → ℕ
 plan_trim e d = trim_place e (digest_trim d)
 
--- up to this place a plan vouches for nothing: it was trimmed, or known good
+-- up to this offset a plan vouches for nothing: it was trimmed, or known good
 abbrev pub plan_from : ℕ → List Told → ℕ
 plan_from e d = max (plan_trim e d) (digest_lng d)
 

@@ -23,7 +23,7 @@ Is32 n = n < 2 ^ 32
 abbrev pub Is64 : ℕ → Type 0
 Is64 n = n < 2 ^ 64
 
--- a last known good place
+-- a last known good offset
 abbrev pub IsLng : ℕ → Type 0
 IsLng n = n ≤ last_esn - 1
 
@@ -31,13 +31,13 @@ IsLng n = n ≤ last_esn - 1
 abbrev pub IsEpoch : ℕ → Type 0
 IsEpoch e = (1 ≤ e) × (e ≤ 2 ^ 32 - 2)
 
--- the greatest place of a reader in the order of opening
+-- the greatest offset of a reader in the order of opening
 abbrev pub last_reader : ℕ
 last_reader = 999
 
 -- ---- entries and summaries ----
 
--- the last place of an epoch is a bridge's alone
+-- the last offset of an epoch is a bridge's alone
 abbrev pub last_place : What → ℕ
 last_place (Rec p) = last_esn - 1
 last_place Hole = last_esn - 1

@@ -34,7 +34,7 @@ statement s (e ∷ es) = better (statement s es) (says s e)
 
 -- ---- a digest ----
 
--- what one node has told: the number that it was asked from last, the entries, the trim and the last known good place of its pages, whether they reach the epoch's end, and whether it then said that it is lost
+-- what one node has told: the number that it was asked from last, the entries, the trim and the last known good offset of its pages, whether they reach the epoch's end, and whether it then said that it is lost
 pub record Told : Type 0 where
   pub node : ℕ
   pub asked : ℕ
@@ -51,7 +51,7 @@ told_nothing epoch y = record { node = y; asked = numbered epoch 1; entries = []
 abbrev pub no_digest : Spec → ℕ → List Told
 no_digest s epoch = map (told_nothing epoch) (nodes_of s)
 
--- the greatest last known good place of a digest: up to it nothing needs to be told, planned or stored again
+-- the greatest last known good offset of a digest: up to it nothing needs to be told, planned or stored again
 unfoldable pub digest_lng : List Told → ℕ
 digest_lng [] = 0
 digest_lng (t ∷ d) = max t.lng (digest_lng d)
@@ -73,7 +73,7 @@ takes_page y from t = (t.node == y) && ((t.asked == from) && not t.whole)
 unfoldable pub with_page : ℕ → ℕ → ℕ → ℕ → ℕ → ℕ → List Entry → List Told → List Told
 with_page epoch y from upto trim lng es d = map (λ t. if takes_page y from t then told_page epoch (max (digest_lng d) lng) upto trim lng es t else t) d
 
--- a node that gave a page is asked anew past what is known good by now; one that gave none from its first place
+-- a node that gave a page is asked anew past what is known good by now; one that gave none from its first offset
 abbrev pub asked_anew : ℕ → ℕ → Told → Told
 asked_anew epoch good t = record t { asked = if t.asked == numbered epoch 1 then t.asked else max t.asked (numbered epoch (good + 1)) }
 
@@ -122,14 +122,14 @@ unfoldable pub digest_trim : List Told → ℕ
 digest_trim [] = 0
 digest_trim (t ∷ d) = max t.trim (digest_trim d)
 
--- a trim as a place of the epoch
+-- a trim as an offset of the epoch
 abbrev pub trim_place : ℕ → ℕ → ℕ
 trim_place epoch trim =
     if nat_lt (epoch_of trim) epoch then 0
     else if nat_lt epoch (epoch_of trim) then last_esn - 1
     else min (esn_of trim) (last_esn - 1)
 
--- the greatest place at which the best statement is a record, a hole or a plug, 0 where there is none
+-- the greatest offset at which the best statement is a record, a hole or a plug, 0 where there is none
 abbrev pub top_in : List Told → List Entry → ℕ
 top_in d [] = 0
 top_in d (e ∷ es) = if not (is_bridge e.what) && is_content (best e.number d) then max (esn_of e.number) (top_in d es) else top_in d es
@@ -138,7 +138,7 @@ unfoldable pub top_place : List Told → List Told → ℕ
 top_place d [] = 0
 top_place d (t ∷ rest) = max (top_in d t.entries) (top_place d rest)
 
--- up to this place a plan says nothing: it is trimmed or known good
+-- up to this offset a plan says nothing: it is trimmed or known good
 unfoldable pub plan_floor : ℕ → List Told → ℕ
 plan_floor epoch d = max (trim_place epoch (digest_trim d)) (digest_lng d)
 
@@ -150,7 +150,7 @@ pub record Item : Type 0 where
   pub number : ℕ
   pub what : What
 
--- what a plan puts at a place: nothing at or below its floor or above the end
+-- what a plan puts at an offset: nothing at or below its floor or above the end
 unfoldable pub plan_item : ℕ → Bool → List Told → ℕ → Option What
 plan_item epoch loss d n =
     if nat_le n (plan_floor epoch d) then None
@@ -158,7 +158,7 @@ plan_item epoch loss d n =
     else if n == plan_end epoch d then Some Bridge
     else None
 
--- the trim as it was found, the last known good place, the bridge's place, whether it says what is lost, and the items by number, the bridge last
+-- the trim as it was found, the last known good offset, the bridge's offset, whether it says what is lost, and the items by number, the bridge last
 pub record Plan : Type 0 where
   pub trim : ℕ
   pub lng : ℕ
@@ -170,7 +170,7 @@ abbrev pub record_items : ℕ → Bool → List Told → List ℕ → List Item
 record_items epoch loss d [] = []
 record_items epoch loss d (n ∷ ns) = record { number = numbered epoch n; what = content loss (best (numbered epoch n) d) } ∷ record_items epoch loss d ns
 
--- the places above one and below another
+-- the offsets above one and below another
 abbrev pub places_between : ℕ → ℕ → List ℕ
 places_between t end = numbers_from (t + 1) (end - 1 - t)
 

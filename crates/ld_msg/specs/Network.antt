@@ -6,7 +6,7 @@ use Rattle.ld_msg.specs.declared.msg.Who.TheVariants as whos
 use Rattle.ld_msg.specs.declared.msg.Body.{Body}
 use Rattle.ld_msg.specs.declared.msg.Msg.{Msg}
 
--- the messages, the last one first; how many they are; and the places of the new ones, rising
+-- the messages, the last one first; how many they are; and the offsets of the new ones, rising
 pub record Network : Type 0 where
   pub sent : List Msg
   pub count : ℕ

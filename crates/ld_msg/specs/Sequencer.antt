@@ -26,7 +26,7 @@ pub record Planned : Type 0 where
   pub what : What
   pub settled : List ℕ
 
--- a plan that is being stored: its trim, its last known good place, its end, whether it says what is lost, its items by number, the wave that they were sent in last
+-- a plan that is being stored: its trim, its last known good offset, its end, whether it says what is lost, its items by number, the wave that they were sent in last
 pub record Storing : Type 0 where
   pub trim : ℕ
   pub lng : ℕ
@@ -432,7 +432,7 @@ window_limit = 128
 abbrev pub payload_limit : ℕ
 payload_limit = 65535
 
--- the next append's place in the epoch
+-- the next append's offset in the epoch
 abbrev pub next_esn : Sequencer → ℕ
 next_esn q = q.lng + length q.appends + 1
 

@@ -28,6 +28,6 @@ module _ {D : Type 0} (seen : D → Option (List ℕ)) (may_leave : D → List �
       stays_on moment left_since seen may_leave (disk_of old) (disk_of old) new (StandsForEither (plain_of old) q)
       (started moment left_since (disk_of old) (StandsForEither (plain_of old) q) (λ c left. inl (images_stand seen may_leave old holds c (now (disk_of old) c left)))) same
 
--- an index that stays, on a disk that reads the same, stands for the same
+-- an index that stays, on a disk that reads the same, represents the same
 pub stands_for_same : (told told_now : Option (List ℕ)) (i j : Plain) → told_now ≡ told → j ≡ i → told_plain told_now j ≡ told_plain told i
 stands_for_same told told_now i j same is = (λ k. told_plain (same k) (is k))

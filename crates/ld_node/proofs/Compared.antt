@@ -1,4 +1,4 @@
--- A place that a store is compared with stands before the disk's end, where each place of the index does: what is decided by it is then the same for the places as they are.
+-- An offset that a store is compared with stands before the disk's end, where each offset of the index does: what is decided by it is then the same for the offsets as they are.
 use Rattle.std.proofs.Common.{◌≡◌, ◌≤◌, ◌+◌, ◌-◌, ℕ, zero, suc, Bool, true, false, List, [], ◌∷◌, map, length, get_or, nat_lt, if◌then◌else◌, refl, ap, sym, ◌∙◌, arith}
 use Rattle.std.proofs.lemmas.Bool.{ltb-true}
 use Rattle.std.proofs.lemmas.Bool.Decides.{nat_tests}
@@ -94,7 +94,7 @@ one_below : (n at y : ℕ) (f : ℕ → ℕ) (b : Bool) → nat_lt at n ≡ b �
 one_below n at y f true below is end = let less = ltb-true at n below in omega (arith, less)
 one_below n at y f false below is end = absurd (let e : y ≡ y + 1 = sym is ∙ end in omega (arith, e))
 
--- where what is put at the places, moved past the end, reads the same, they are before it
+-- where what is put at the offsets, moved past the end, reads the same, they are before it
 below : (n : ℕ) (q : List ℕ) (at : ℕ) (f : ℕ → ℕ) → map (λ k. f (within n k)) (numbers_from at (length q)) ≡ q → f (at + length q) ≡ last_of q + 1 → (length q ≡ 0 → ⊥) → at + length q ≤ n
 below n [] at f is end some = absurd (some refl)
 below n (y ∷ []) at f is end some = one_below n at y f (nat_lt at n) refl (head_is _ _ _ _ is) end

@@ -51,14 +51,14 @@ module _ (told : Option (List ℕ)) (bytes : List ℕ) (m : Msg) (id : ℕ) (kno
   pub settled_answer : (a : Option Body) → IfSome told (λ b. a ≡ reply_with (byte_at b) m done.answer) → a ≡ (handled id known released (told_plain told i) m).answer
   settled_answer a settled = of_some told bytes (λ b. a ≡ reply_with (byte_at b) m done.answer) is settled ∙ ((decided (byte_at bytes)).answer ∙ ap (λ p. (handled id known released p m).answer) as_told)
 
--- no place is past the end
+-- no offset is past the end
 pub none_past : (told : Option (List ℕ)) (bytes : List ℕ) (i q : Plain) (a : Reply) → told ≡ Some bytes → q ≡ i → IfSome told (λ b. each_plain (within (length b)) i ≡ i)
     → ((n : ℕ) → each_plain (within n) q ≡ q → Stays (within n) a) → IfSome told (λ b. Stays (within (length b)) a → ⊥) → ⊥
 none_past told bytes i q a is same inside stays damaged =
     of_some told bytes (λ b. Stays (within (length b)) a → ⊥) is damaged
     (stays (length bytes) (ap (each_plain (within (length bytes))) same ∙ (of_some told bytes (λ b. each_plain (within (length b)) i ≡ i) is inside ∙ sym same)))
 
--- a refusal with a failed disk, or for want of memory
+-- a refusal with a failed disk, or when out of memory
 pub failed_or_memory : {T : Type 0} (r : Result T NodeFault) → (r ≡ Err nodes.Full → ⊥) → (r ≡ Err nodes.NeedsLoad → ⊥) → ((f : RegisterFault) → r ≡ Err (nodes.Register f) → ⊥) → ((place : ℕ) → r ≡ Err (nodes.Damaged place) → ⊥)
     → OnErr r ((r ≡ Err nodes.Disk) ⊎ (r ≡ Err nodes.NoMemory))
 failed_or_memory (Ok x) full load register damaged = tt

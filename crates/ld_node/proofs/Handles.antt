@@ -1,4 +1,4 @@
--- What a node makes of a message, whatever stands for each byte of a payload.
+-- What a node makes of a message, whatever represents each byte of a payload.
 use Rattle.std.proofs.Common.{◌≡◌, ℕ, Bool, true, false, List, map, Some, None, Option, refl, ap, sym, ◌∙◌, subst, if◌then◌else◌}
 use Rattle.ld_lsn.specs.Number.{epoch_of, numbered, last_esn}
 use Rattle.ld_msg.specs.declared.msg.What.{What}

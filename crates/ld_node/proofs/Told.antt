@@ -1,4 +1,4 @@
--- What a node reads of its index alone is the same of the plain state that it stands for.
+-- What a node reads of its index alone is the same of the plain state that it represents.
 use Rattle.std.proofs.Common.{◌≡◌, ℕ, List, [], ◌∷◌, map, Option, Some, None, refl, ap, sym, ◌∙◌, ◌&&◌, not, ◌==◌, nat_lt, cond}
 use Rattle.ld_table.specs.Table.{map_values}
 use Rattle.ld_table.specs.Words.{is_in}

@@ -13,7 +13,7 @@ of_store stores.Full = nodes.Full
 of_store stores.NeedsLoad = nodes.NeedsLoad
 of_store stores.NoMemory = nodes.NoMemory
 
--- want of memory passes as such
+-- running out of memory passes as such
 abbrev pub of_register : RegisterFault → NodeFault
 of_register registers.NoMemory = nodes.NoMemory
 of_register registers.Failed = nodes.Register registers.Failed

@@ -45,6 +45,6 @@ pub record FormatsBy (y : Layout) (z : Slots) (disk : disks.Plain) (draw : Resul
   pub refused_disk : (fault : RegisterFault) → draw ≡ Err fault → now ≡ Some disk
   pub keeps : (drawn : Drawn) → draw ≡ Ok drawn → KeepsFormat y z disk drawn now result
 
--- bytes that stand for the plain state before, or for that with a format that may have been drawn
+-- bytes that represent the plain state before, or for that with a format that may have been drawn
 abbrev pub LeftByFormat : Plain → (Drawn → Type 0) → List ℕ → Type 0
 LeftByFormat p may bytes = StandsFor p bytes ⊎ ((drawn : Drawn) × may drawn × StandsFor (apply p (format_of drawn)) bytes)

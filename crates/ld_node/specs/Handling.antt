@@ -77,7 +77,7 @@ IsEither m o (replies.Page draft) op = op ≡ o
 IsEither m o (replies.Compare place) op = (op ≡ None) ⊎ (op ≡ accept_of m.log (ballot_of m.from) m.body)
 
 module _ (f : ℕ → ℕ) where
-  -- the answer, where f is what stands for each byte
+  -- the answer, where f is what represents each byte
   abbrev pub reply_with : Msg → Reply → Option Body
   reply_with m replies.Nothing = None
   reply_with m (replies.Whole b) = Some b
@@ -96,7 +96,7 @@ module _ (f : ℕ → ℕ) where
     pub op : op_with m done.op done.answer ≡ handled.op
     pub answer : reply_with m done.answer ≡ handled.answer
 
-  -- each place that is read stays where f is put at it
+  -- each offset that is read stays where f is put at it
   abbrev pub Stays : Reply → Type 0
   Stays replies.Nothing = Unit {0}
   Stays (replies.Whole b) = Unit {0}

@@ -44,7 +44,7 @@ module _ {D : Type 0} {g : Ghosts D} where
   abbrev pub index_of : Node D g → Plain
   index_of node = stores.index_of node.store
 
-  -- the plain state that it stands for on its disk
+  -- the plain state that it represents on its disk
   abbrev pub plain_of : Node D g → Plain
   plain_of node = stores.plain_of node.store
 
@@ -53,6 +53,6 @@ module _ {D : Type 0} {g : Ghosts D} (seen : D → Option (List ℕ)) (may_leave
   abbrev pub Holds : Node D g → Type 0
   Holds node = stores.Holds seen may_leave node.store
 
-  -- where these bytes stand for a plain state, it holds that, with a mark behind a journal of the first version
+  -- where these bytes represent a plain state, it holds that, with a mark behind a journal of the first version
   abbrev pub IsOpened : Node D g → List ℕ → Type 0
   IsOpened node bytes = stores.IsOpened seen may_leave node.store bytes

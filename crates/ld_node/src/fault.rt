@@ -9,7 +9,7 @@ pub enum NodeFault {
     /// A call of the disk failed. The node has to be loaded again.
     #[error("the disk failed")]
     Disk,
-    /// The record whose gate is at this place is cut short by the disk's end, or its body is no record that may stand there,
+    /// The record whose gate is at this offset is cut short by the disk's end, or its body is no record that may stand there,
     /// or the segment or the payload that begins there isn't within its bounds.
     #[error("the store is damaged")]
     Damaged(u64),

@@ -26,7 +26,7 @@ pub enum Reply {
     Whole(Body),
     /// This, once its payloads are read.
     Page(Draft),
-    /// That what a store holds is kept. It is there already where its payload stands at this place, and else it is
+    /// That what a store holds is kept. It is there already where its payload stands at this offset, and else it is
     /// taken.
     Compare(Place),
 }
@@ -48,7 +48,7 @@ pub(crate) fn handle(
 ) -> Result<Handled, NoMemory>
     ensures handled { (f : ℕ → ℕ) → IfOk result (λ done. IsHandledWith f msg.now done (handled_by id plain.now.state.generation (each_log f (log_of plain.now.state msg.now.log)) msg.now.log (ballot_of msg.now.from) released msg.now.body)) }
 
-    // Where each place of the index is before an end, so is each that is read.
+    // Where each offset of the index is before an end, so is each that is read.
     ensures stays { (count : ℕ) → each_plain (within count) plain.now.state ≡ plain.now.state → IfOk result (λ done. Stays (within count) done.answer) }
 {
     match &msg.body {

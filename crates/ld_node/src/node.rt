@@ -48,7 +48,7 @@ impl<D: Disk> Node<D> {
     /// it is. The node knows the nodes and the logs of the configuration. Nothing is released yet.
     ///
     /// A refusal hands the disk back: `Disk` where a call of it failed, `Damaged(place)` where the record whose gate
-    /// is at that place is cut short, or its body is none that may stand there, or the segment that begins there isn't
+    /// is at that offset is cut short, or its body is none that may stand there, or the segment that begins there isn't
     /// within its bounds, or the disk has no byte at all, `Full` where a mark, or the segment that it needs, would pass
     /// the journal's limit, and `NoMemory`.
     pub fn load(
@@ -65,14 +65,14 @@ impl<D: Disk> Node<D> {
         ensures steady { MatchResult result (λ node. D.faults (disk_of node) ≡ D.faults disk) (λ e. (e.1 ≡ NodeFault.Disk) ⊎ (D.faults e.0 ≡ D.faults disk)) }
 
         // A crash at any moment leaves what a crash before the call might have left, or, of a journal of the first
-        // version, what stands for the same plain state.
+        // version, what represents the same plain state.
         ensures any_moment { IfSome (D.seen disk) (λ bytes. MatchResult result (λ node. LeavesOnly D.moment D.left_since disk (disk_of node) (LeftOrMarked (D.may_leave disk) bytes))
             (λ e. LeavesOnly D.moment D.left_since disk e.0 (LeftOrMarked (D.may_leave disk) bytes))) }
 
         // Where it isn't marked, no byte changes: a crash leaves what one before the call might have left.
         ensures reads { IfErr result (λ e. (e.1 ≡ NodeFault.Disk) ⊎ LeavesOnly D.moment D.left_since disk e.0 (D.may_leave disk)) }
 
-        // Where the disk tells what each call will do, no read of it fails, and its bytes stand for a plain state and are
+        // Where the disk tells what each call will do, no read of it fails, and its bytes represent a plain state and are
         // no journal of the first version, it is one writing call.
         ensures exact { (p : DiskPlain) (state : State) → D.plain disk ≡ Some p → reads_fine p ≡ true → StandsFor state p.state.bytes → ¬ IsOfFirst p.state.bytes
             → MatchResult result (λ node. (D.plain (disk_of node) ≡ Some (after_call None p)) × (succeeds p ≡ true))
@@ -144,7 +144,7 @@ impl<D: Disk> Node<D> {
     /// It refuses with `Full` where the op's record, or the segment that it needs, would pass the journal's limit, and
     /// with `NoMemory`; then nothing has changed. It refuses with `Disk` where a call of the disk failed: the op is then there or not, which the next
     /// load tells, and until then each call answers `NeedsLoad`. It refuses with `Damaged(place)` where the disk ends
-    /// before the payload that stands at that place does, which can't be where it tells what it has. No refusal changes
+    /// before the payload that stands at that offset does, which can't be where it tells what it has. No refusal changes
     /// anything in memory.
     pub fn on_msg(&mut self, alloc: Global, msg: &Msg) -> Result<Replies, NodeFault>
         requires msg { IsMessage msg.now }
@@ -164,10 +164,10 @@ impl<D: Disk> Node<D> {
         ensures refused { OnErr result ((index_of self.new ≡ index_of self.old) × (layout_of self.new ≡ layout_of self.old) × (slots_of self.new ≡ slots_of self.old) × (released_of self.new ≡ released_of self.old)) }
         ensures rest { (id_of self.new ≡ id_of self.old) × (known_of self.new ≡ known_of self.old) × (is_blank self.new ≡ false) }
 
-        // At `Ok` the op is durable: from then on each crash leaves what stands for the plain state with it.
+        // At `Ok` the op is durable: from then on each crash leaves what represents the plain state with it.
         ensures acknowledged { Holds D.seen D.may_leave self.old → OnOk result (Holds D.seen D.may_leave self.new) }
 
-        // A crash at any moment of the call leaves what stands for the plain state before it or for that with the op.
+        // A crash at any moment of the call leaves what represents the plain state before it or for that with the op.
         ensures any_moment { Holds D.seen D.may_leave self.old
             → LeavesOnly D.moment D.left_since (disk_of self.old) (disk_of self.new) (StandsForEither (plain_of self.old) (kept (handled (id_of self.old) (known_of self.old) (released_of self.old) (plain_of self.old) msg.now).op (plain_of self.old))) }
 

@@ -55,10 +55,10 @@ impl<D: Disk> Node<D> {
         ensures laid { IfOk result (λ drawn. (layout_of self.new ≡ kept_in (layout_of self.old) (format_of drawn)) × (slots_of self.new ≡ slots_with (layout_of self.old) (slots_of self.old) (op_length (format_of drawn)))) }
         ensures formatted { OnOk result (is_blank self.new ≡ false) }
 
-        // At `Ok` the format is durable: from then on each crash leaves what stands for the plain state with it.
+        // At `Ok` the format is durable: from then on each crash leaves what represents the plain state with it.
         ensures acknowledged { Holds D.seen D.may_leave self.old → OnOk result (Holds D.seen D.may_leave self.new) }
 
-        // A crash at any moment of the call leaves what stands for the plain state before it or for that with the format.
+        // A crash at any moment of the call leaves what represents the plain state before it or for that with the format.
         ensures any_moment { Holds D.seen D.may_leave self.old
             → LeavesOnly D.moment D.left_since (disk_of self.old) (disk_of self.new)
             (LeftByFormat (plain_of self.old) (λ drawn. (c : Contents) → G.holds reg.old c → answered drawn ≡ drawn_by c (id_of self.old))) }
@@ -163,10 +163,10 @@ impl<D: Disk> Node<D> {
         // For a log that it doesn't know there is nothing to do, and no look.
         ensures foreign { must_load self.old ≡ false → is_in log (known_of self.old).logs ≡ false → (result ≡ Ok answers.Nothing) × (self.new ≡ self.old) × (reg.new ≡ reg.old) }
 
-        // At `Ok` the op is durable: from then on each crash leaves what stands for the plain state with it.
+        // At `Ok` the op is durable: from then on each crash leaves what represents the plain state with it.
         ensures acknowledged { Holds D.seen D.may_leave self.old → OnOk result (Holds D.seen D.may_leave self.new) }
 
-        // A crash at any moment of the call leaves what stands for the plain state before it or for that with the op.
+        // A crash at any moment of the call leaves what represents the plain state before it or for that with the op.
         ensures any_moment { (c : Contents) → Holds D.seen D.may_leave self.old → G.holds reg.old c
             → LeavesOnly D.moment D.left_since (disk_of self.old) (disk_of self.new) (StandsForEither (plain_of self.old) (kept (op_of log (ticked (known_of self.old) (plain_of self.old) log c)) (plain_of self.old))) }
 
@@ -234,7 +234,7 @@ impl<D: Disk> Node<D> {
         Ok(step.ticked)
     }
 
-    /// Takes another node's place in each epoch of a log that is closed in the register, has the other node and lacks this
+    /// Takes another node's offset in each epoch of a log that is closed in the register, has the other node and lacks this
     /// one, up to the epoch that this node was lost for; and says how many these are. It asks that of the register where
     /// the configuration has the log and the other node, which isn't this one, and what this one lost of the log is there
     /// again; else they are none, and nothing is asked. The node itself stays as it is.

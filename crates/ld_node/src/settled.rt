@@ -137,7 +137,7 @@ pub(crate) fn settle<D: Disk>(
     }
 }
 
-/// Whether the payload of a store stands at a place.
+/// Whether the payload of a store stands at an offset.
 fn is_there<D: Disk>(
     alloc: Global,
     store: &mut Store<D>,

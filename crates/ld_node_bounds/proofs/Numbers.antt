@@ -1,4 +1,4 @@
--- Numbers, their epochs and places.
+-- Numbers, their epochs and offsets.
 use Rattle.std.proofs.Common.{inl, inr, ◌≡◌, ◌≤◌, ◌<◌, ℕ, ◌-◌, ◌/◌, ◌^◌, refl, Bool, true, false, ◌&&◌, ◌==◌, nat_lt, arith}
 use Rattle.std.proofs.lemmas.Bool.{cond_both, and_parts, and_cases, eqb-true, eqb-false, ltb-true, ltb-false}
 use Rattle.ld_lsn.specs.Number.{epoch_of, esn_of, numbered, home_epoch, home_esn, is_epoch_end}
@@ -42,7 +42,7 @@ home_between a n b h i j e = let p = home_is a h in let q = home_is n (omega ari
 pub home_of_place : (v : ℕ) → 1 ≤ esn_of v → home_epoch v ≡ epoch_of v
 home_of_place v h = let p = home_is v (omega arith) in omega arith
 
--- a place below 2 ^ 32 that is not an epoch's end
+-- an offset below 2 ^ 32 that is not an epoch's end
 pub home_esn_is : (v : ℕ) → home_esn v < 2 ^ 32 → (home_epoch v ≡ epoch_of v) × (home_esn v ≡ esn_of v)
 home_esn_is v = cond_both_two (is_epoch_end v) refl where
   cond_both_two : (b : Bool) → is_epoch_end v ≡ b → home_esn v < 2 ^ 32 → (home_epoch v ≡ epoch_of v) × (home_esn v ≡ esn_of v)

@@ -32,7 +32,7 @@ pub record IsClosed (y : ℕ × Summary) : Type 0 where
   pub epoch : IsEpoch y.0
   pub summary : IsSummary y.0 y.1
 
--- a last known good place that was told of an epoch
+-- a last known good offset that was told of an epoch
 abbrev pub IsGood : ℕ × ℕ → Type 0
 IsGood m = IsLng m.1
 

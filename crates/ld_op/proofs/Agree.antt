@@ -45,6 +45,6 @@ module _ (f g : ℕ → ℕ) where
       (ordered.entries l h at_l)))
       ordered.logs)
 
--- once an op's body stands on the disk, and the bytes under the index are as they were, the index with the op stands for the state with the op
+-- once an op's body stands on the disk, and the bytes under the index are as they were, the index with the op represents the state with the op
 pub op_reads : (i : Plain) (o : Op) (at : ℕ) (before now : List ℕ) → read_plain now i ≡ read_plain before i → each_op (byte_at now) (placed at o) ≡ o → read_plain now (apply i (placed at o)) ≡ apply (read_plain before i) o
 op_reads i o at before now same is = apply_same (byte_at now) i (placed at o) ∙ (λ j. apply (same j) (is j))

@@ -1,4 +1,4 @@
--- What ops do with payloads is the same for bytes and for places.
+-- What ops do with payloads is the same for bytes and for offsets.
 use Rattle.std.proofs.Common.{◌≡◌, ℕ, List, [], ◌∷◌, map, filter, Option, None, Some, Bool, true, false, cond, nat_lt, refl, sym, ap, ◌∙◌, option_map}
 use Rattle.std.specs.Option.{unwrap_or}
 use Rattle.ld_table.specs.Table.{find, put, keep, passes, map_values}

@@ -40,7 +40,7 @@ ends_after e k y v m l i h = elim (put_cases e k v m) [
   | inr s ↦ i (sym s.1 ∙ h)
 ]
 
--- a summary comes where there was a place, and the lowest epoch without one is sought from the one before on
+-- a summary comes where there was an offset, and the lowest epoch without one is sought from the one before on
 pub with_summary : (k : ℕ) (v : Summary) (n m : List (ℕ × Option Summary)) (from upto : ℕ) → v.end < 2 ^ 32 → filled n ≡ put k v (filled m) → ((q : ℕ) → has_place q n ≡ has_place q m) → from ≤ upto → AreClean from upto (filled n) → find upto (filled n) ≡ None → AreSummaries m from → AreSummaries n upto
 with_summary k v n m from upto l same places rises passed absent i = record {
   epochs = epochs_stay n m places i.epochs;

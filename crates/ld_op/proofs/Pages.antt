@@ -1,4 +1,4 @@
--- What a walk over the places of a range picks.
+-- What a walk over the offsets of a range picks.
 use Rattle.std.proofs.Common.{◌≡◌, ◌<◌, ◌≤◌, ℕ, suc, Bool, true, false, not, cond, ◌&&◌, List, [], ◌∷◌, ◌++◌, Option, Some, None, refl, ap, sym, ◌∙◌, arith, length, take, nat_le, nat_lt, nat_cmp, get_or, ◌-◌, map, append_assoc}
 use Rattle.std.specs.declared.ops.Bound.TheVariants.{Included}
 use Rattle.std.proofs.lemmas.List.{append-nil}
@@ -20,7 +20,7 @@ abbrev pub with_one : Option Entry → List Entry → List Entry
 with_one None es = es
 with_one (Some e) es = e ∷ es
 
--- what is picked of the places
+-- what is picked of the offsets
 abbrev pub gather : Bool → List (ℕ × Option Entry) → List Entry
 gather b [] = []
 gather b (s ∷ m) = with_one (picked_one b s.1) (gather b m)
@@ -33,7 +33,7 @@ pub gather-append : (b : Bool) (m n : List (ℕ × Option Entry)) → gather b (
 gather-append b [] n = refl
 gather-append b (s ∷ m) n = ap (with_one (picked_one b s.1)) (gather-append b m n) ∙ with_one-append (picked_one b s.1) (gather b m) (gather b n)
 
--- the walk goes on by a place
+-- the walk goes on by an offset
 pub gather_on : (b : Bool) (all ys rest : List (ℕ × Option Entry)) (s : ℕ × Option Entry) (es : List Entry) (e : Entry) → ys ++ s ∷ rest ≡ all → es ≡ gather b ys → picked_one b s.1 ≡ Some e → gather b all ≡ es ++ e ∷ gather b rest
 gather_on b all ys rest s es e a g p = ap (gather b) (sym a) ∙ (gather-append b ys (s ∷ rest) ∙ (ap (λ x. x ++ with_one (picked_one b s.1) (gather b rest)) (sym g) ∙ ap (λ o. es ++ with_one o (gather b rest)) p))
 
@@ -114,7 +114,7 @@ picked_is false m from last = refl
 bounds : (from last k : ℕ) → range_contains nat_cmp (Included from) (Included last) k ≡ nat_le from k && nat_le k last
 bounds from last k = grind (arith, nat_tests)
 
--- a walk over the places from one number to another picks what is said
+-- a walk over the offsets from one number to another picks what is said
 pub gather_is : (b : Bool) (m r : List (ℕ × Option Entry)) (from last : ℕ) → Ordered m → AreUnderTheirNumbers m → r ≡ filter (λ s. range_contains nat_cmp (Included from) (Included last) s.0) m → gather b r ≡ picked b (filled m) from last
 gather_is b m r from last h u e = ap (gather b) (e ∙ alike _ (λ s. nat_le from s.0 && nat_le s.0 last) m (λ s. bounds from last s.0))
     ∙ (picks_all b (λ k. nat_le from k && nat_le k last) m (under_all m m h u (found m h)) ∙ picked_is b (filled m) from last)

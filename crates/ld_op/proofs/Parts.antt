@@ -24,7 +24,7 @@ pub epochs_done : (bs : List ℕ) (n i least at : ℕ) (acc : List (ℕ × ℕ))
 unfolding read_epochs
 epochs_done bs n i least at acc h = ap (λ k. resumed acc (read_epochs bs (n - k) least at)) h ∙ (ap (λ k. resumed acc (read_epochs bs k least at)) (none_left n) ∙ done acc at)
 
--- a fault names the place of the part
+-- a fault names the offset of the part
 pub epochs_fault : (bs : List ℕ) (n i least at : ℕ) (acc : List (ℕ × ℕ)) (whole : Read (List (ℕ × ℕ))) (e : FieldFault) → i < n → resumed acc (read_epochs bs (n - i) least at) ≡ whole → IsOff (read_epoch bs least at) e → IsOff whole e
 epochs_fault bs n i least at acc whole (Bad place) h w o = sym w ∙ epochs_off bs n i least at acc place h o
 epochs_fault bs n i least at acc whole NoMemory h w o = tt

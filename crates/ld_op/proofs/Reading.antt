@@ -15,7 +15,7 @@ use Rattle.ld_op.specs.Plain.{what_length, entry_length}
 use Rattle.ld_op.specs.Bytes.{op_bytes}
 use Rattle.ld_op.specs.Cells.{byte_at, each_what, each_entry, each_op, placed_what, placed_entry, placed_entries, placed}
 
--- these bytes stand at a place, and others behind them
+-- these bytes stand at an offset, and others behind them
 abbrev Stands : ℕ → List ℕ → List ℕ → List ℕ → Type 0
 Stands at piece rest bytes = drop at bytes ≡ piece ++ rest
 

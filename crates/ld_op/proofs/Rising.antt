@@ -85,7 +85,7 @@ module _ {X : Type 0} where
   unfolding read_rising
   reading_ends item n i least at acc whole r h = sym r.rest ∙ (ap (λ k. resumed acc (read_rising item (n - k) least at)) h ∙ (ap (λ k. resumed acc (read_rising item k least at)) (none_left n) ∙ done acc at))
 
-  -- a fault names the place of the item
+  -- a fault names the offset of the item
   pub reading_fails : (item : ℕ → ℕ → Read (ℕ × X)) (n i least at : ℕ) (acc : List (ℕ × X)) (whole : Read (List (ℕ × X))) (e : FieldFault) → Reading item n i least at acc whole → i < n → IsOff (item least at) e → IsOff whole e
   unfolding read_rising
   reading_fails item n i least at acc whole (Bad place) r h o = sym r.rest ∙ (ap (λ k. resumed acc (read_rising item k least at)) (less n i h)

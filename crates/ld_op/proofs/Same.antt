@@ -1,4 +1,4 @@
--- What answers do with payloads is the same for bytes and for places.
+-- What answers do with payloads is the same for bytes and for offsets.
 use Rattle.std.proofs.Common.{◌≡◌, ℕ, zero, suc, ◌-◌, List, [], ◌∷◌, ◌++◌, map, length, take, filter, flat_map, Option, None, Some, is_none, Bool, true, false, cond, nat_le, nat_lt, ◌&&◌, not, refl, sym, ap, ◌∙◌, option_map}
 use Rattle.ld_table.specs.Table.{find, map_values}
 use Rattle.ld_table.specs.Words.{values}

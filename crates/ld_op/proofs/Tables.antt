@@ -46,7 +46,7 @@ module _ {X : Type 0} where
   unfolding filled
   count_all before n all b h = let l : length (filled before) ≡ 0 = ap (λ m. length (filled m)) b in omega arith
 
-  -- no more are there than places
+  -- no more are there than offsets
   one_most : (k : ℕ) (o : Option X) (m : List (ℕ × X)) (n : ℕ) → length m ≤ n → length (filled_one k o m) ≤ suc n
   one_most k None m n h = omega arith
   one_most k (Some v) m n h = omega arith
@@ -187,7 +187,7 @@ numbers-length : (at n : ℕ) → length (numbers_from at n) ≡ n
 numbers-length at zero = refl
 numbers-length at (suc n) = ap suc (numbers-length (at + 1) n)
 
--- what stands under a number, with its payload's place
+-- what stands under a number, with its payload's offset
 pub place_is : (held : Stands) (place : Place) → held ≡ Rec place → big_bytes 1 0 ++ (big_bytes 8 (first_place (numbers_from place.at place.len)) ++ big_bytes 2 place.len) ≡ what_based (seen_what held)
 place_is held place h = ap (λ n. big_bytes 1 0 ++ (big_bytes 8 (first_place (numbers_from place.at place.len)) ++ big_bytes 2 n)) (sym (numbers-length place.at place.len)) ∙ sym (ap (λ x. what_based (seen_what x)) h)
 

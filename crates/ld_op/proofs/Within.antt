@@ -9,7 +9,7 @@ use Rattle.ld_op.specs.Room.{Held, there_of}
 use Rattle.ld_op.specs.Within.{places_within, entries_within, logs_within, entry_within, log_within}
 
 module _ (end : ℕ) where
-  -- so many places side by side
+  -- so many offsets side by side
   pub numbers_within : (at n : ℕ) → places_within end (numbers_from at n) ≡ ((n == 0) || nat_le (at + n) end)
   numbers_within at zero = refl
   numbers_within at (suc zero) = grind (arith, nat_tests)

@@ -1,4 +1,4 @@
--- A payload is a list of numbers: its bytes, or, in an index, the places of its bytes. What ops and answers do with payloads is the same for both, so a plain state, an op and a message are defined once, and an index is a plain state too.
+-- A payload is a list of numbers: its bytes, or, in an index, the offsets of its bytes. What ops and answers do with payloads is the same for both, so a plain state, an op and a message are defined once, and an index is a plain state too.
 use Rattle.std.specs.Prelude.{ℕ, ◌+◌, ◌≡◌, List, [], ◌∷◌, length, map, get_or, Some, Bool, true, false}
 use Rattle.ld_table.specs.Table.{find, map_values, Ordered}
 use Rattle.ld_table.specs.Words.{is_in, numbers_from}
@@ -43,7 +43,7 @@ module _ (f : ℕ → ℕ) where
   abbrev pub each_msg : Msg → Msg
   each_msg m = record m { body = each_body m.body }
 
--- a record, with its payload or the places of it
+-- a record, with its payload or the offsets of it
 abbrev pub is_rec : What → Bool
 is_rec (Rec p) = true
 is_rec Hole = false
@@ -61,11 +61,11 @@ filled_what q Withheld = Withheld
 
 -- ---- the bytes that an index stands for ----
 
--- the byte at a place; past the end it is 0
+-- the byte at an offset; past the end it is 0
 abbrev pub byte_at : List ℕ → ℕ → ℕ
 byte_at bytes k = get_or bytes k 0
 
--- the plain state that an index stands for, on a disk of these bytes
+-- the plain state that an index represents, on a disk of these bytes
 abbrev pub read_plain : List ℕ → Plain → Plain
 read_plain bytes index = each_plain (byte_at bytes) index
 

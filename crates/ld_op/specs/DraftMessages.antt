@@ -1,4 +1,4 @@
--- How drafts are seen: as messages whose payloads are the places of their bytes.
+-- How drafts are seen: as messages whose payloads are the offsets of their bytes.
 use Rattle.ld_msg.specs.declared.msg.Msg.{Msg}
 use Rattle.ld_op.specs.declared.draft_message.Draft.TheInside.{Inside}
 

@@ -11,7 +11,7 @@ is_page (bodies.DigestPage from upto trim lng es) = true
 is_page (bodies.ReadPage round from upto clean es) = true
 is_page _ = false
 
--- what is said whole has no payload: each one is told by its place
+-- what is said whole has no payload: each one is told by its offset
 abbrev pub is_placed : Said → Bool
 is_placed (Whole body) = not (is_page body)
 is_placed (Digest from upto trim lng entries) = true

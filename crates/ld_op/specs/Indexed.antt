@@ -17,12 +17,12 @@ use Rattle.ld_op.specs.Plain.{Plain, Log}
 
 -- ---- the bytes ----
 
--- where a payload begins; one without bytes stands nowhere, and 0 is written for its place
+-- where a payload begins; one without bytes stands nowhere, and 0 is written for its offset
 abbrev pub first_place : List ℕ → ℕ
 first_place [] = 0
 first_place (k ∷ ks) = k
 
--- a tag, and for a record its payload's place and length; a store keeps no record without its payload
+-- a tag, and for a record its payload's offset and length; a store keeps no record without its payload
 abbrev pub what_based : What → List ℕ
 what_based (Rec p) = big_bytes 1 0 ++ (big_bytes 8 (first_place p) ++ big_bytes 2 (length p))
 what_based Hole = big_bytes 1 1
@@ -66,7 +66,7 @@ abbrev pub entry_count : List (ℕ × Log) → ℕ
 entry_count [] = 0
 entry_count (l ∷ ls) = length l.1.entries + entry_count ls
 
--- the place of the first byte of a payload that has some
+-- the offset of the first byte of a payload that has some
 abbrev pub first_of : List ℕ → List ℕ
 first_of [] = []
 first_of (k ∷ ks) = k ∷ []
@@ -89,7 +89,7 @@ payload_starts (l ∷ ls) = entry_starts l.1.entries ++ payload_starts ls
 
 -- ---- how bytes are judged ----
 
--- where a payload stands, and how long it is; the places of its bytes are numbers of 64 bits
+-- where a payload stands, and how long it is; the offsets of its bytes are numbers of 64 bits
 abbrev pub read_place : List ℕ → ℕ → Read What
 read_place bs at =
     follow (field 8 bs at) (λ place at_length. follow (field 2 bs at_length) (λ length next. check (nat_le (place + length) (2 ^ 64 - 1)) at (Got (Rec (numbers_from place length)) next)))
@@ -144,7 +144,7 @@ read_based_log bs older least at =
     follow (field 4 bs at_lost_to) (λ lost_to at_tables.
     follow (read_tables bs older (record { sealed = sealed; trim = trim; entries = []; summaries = []; lngs = []; lost = lost; lost_to = lost_to }) at_tables) (λ g next. Got (log, g) next)))))))
 
--- an index from a place on
+-- an index from an offset on
 unfoldable pub read_index : List ℕ → Bool → ℕ → Read Plain
 read_index bs older at =
     follow (field 4 bs at) (λ generation at_logs.
@@ -173,7 +173,7 @@ pub record IsBasedSummary (older : Bool) (s : ℕ × Summary) : Type 0 where
   pub summary : IsSummary s.0 s.1
   pub loss : older ≡ true → s.1.loss ≡ false
 
--- a last known good place under its epoch
+-- a last known good offset under its epoch
 pub record IsBasedLng (m : ℕ × ℕ) : Type 0 where
   pub epoch : IsEpoch m.0
   pub lng : IsLng m.1

@@ -10,7 +10,7 @@ use Rattle.ld_msg.specs.declared.msg.Summary.{Summary}
 use Rattle.ld_op.specs.declared.op.Op.{Op}
 use Rattle.ld_op.specs.declared.op.Op.TheVariants as ops
 
--- one log's: the greatest ballot seen, the trim, the entries by number, the summaries of the clean epochs, the last known good places that accepted stores told of the others, and the epoch up to which it is lost, kept once it is refilled
+-- one log's: the greatest ballot seen, the trim, the entries by number, the summaries of the clean epochs, the last known good offsets that accepted stores told of the others, and the epoch up to which it is lost, kept once it is refilled
 pub record Log : Type 0 where
   pub sealed : ℕ
   pub trim : ℕ
@@ -36,7 +36,7 @@ log_of p l = unwrap_or (find l p.logs) empty_log
 
 -- ---- words on one log ----
 
--- epoch 0 is closed and clean everywhere, and ends before its place 1
+-- epoch 0 is closed and clean everywhere, and ends before its offset 1
 abbrev pub epoch_zero : Summary
 epoch_zero = record { ballot = 0; lng = 0; trim = 0; end = 1; loss = false }
 
@@ -67,7 +67,7 @@ accept_entry e Plug m = put e.number e m
 accept_entry e Withheld m = put e.number e m
 accept_entry e Bridge m = put e.number e (keep (λ s f. survives_bridge e f) m)
 
--- the greatest last known good place that was told of an epoch; none is kept of 0
+-- the greatest last known good offset that was told of an epoch; none is kept of 0
 abbrev pub lng_in : List (ℕ × ℕ) → ℕ → ℕ
 lng_in m epoch = unwrap_or (find epoch m) 0
 

@@ -1,4 +1,4 @@
--- How an entry of an index is seen: its payload as the places of its bytes.
+-- How an entry of an index is seen: its payload as the offsets of its bytes.
 use Rattle.ld_table.specs.Words.{numbers_from}
 use Rattle.ld_msg.specs.declared.msg.What.{What}
 use Rattle.ld_msg.specs.declared.msg.What.TheVariants as whats

@@ -1,4 +1,4 @@
--- What a place in an index takes: nothing where there is none yet.
+-- What an offset in an index takes: nothing where there is none yet.
 use Rattle.std.specs.Prelude.{ℕ, ◌+◌, length, Option, Some, None, if◌then◌else◌}
 use Rattle.ld_msg.specs.declared.msg.Entry.{Entry}
 use Rattle.ld_op.specs.Room.{Held}

@@ -15,7 +15,7 @@ use Rattle.ld_op.specs.Answers.{Handled}
 
 -- ---- what is missing ----
 
--- the first place of an epoch above the trim
+-- the first offset of an epoch above the trim
 abbrev pub first_above : ℕ → ℕ → ℕ
 first_above epoch trim = if nat_lt trim (numbered epoch 1) then 1 else trim + 1 - numbered epoch 0
 

@@ -30,7 +30,7 @@ pub record IsLowest (g : Log) (n : ℕ) : Type 0 where
 abbrev pub AreNumbered : Log → Type 0
 AreNumbered g = (n : ℕ) (e : Entry) → find n g.entries ≡ Some e → e.number ≡ n
 
--- the ends of the summaries are places of an epoch
+-- the ends of the summaries are offsets of an epoch
 abbrev pub EndInEpochs : Log → Type 0
 EndInEpochs g = (epoch : ℕ) (y : Summary) → find epoch g.summaries ≡ Some y → y.end < 2 ^ 32
 

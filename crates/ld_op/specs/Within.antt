@@ -1,4 +1,4 @@
--- Whether the payloads of an index end at a place or before it.
+-- Whether the payloads of an index end at an offset or before it.
 use Rattle.std.specs.Prelude.{ℕ, List, [], ◌∷◌, Option, Some, None, Bool, true, ◌&&◌, nat_lt, if◌then◌else◌}
 use Rattle.ld_table.specs.Words.{all_of}
 use Rattle.ld_msg.specs.declared.msg.What.{What}
@@ -8,7 +8,7 @@ use Rattle.ld_op.specs.Plain.{Log}
 use Rattle.ld_op.specs.Room.{Held}
 
 module _ (end : ℕ) where
-  -- each of these places lies before the end
+  -- each of these offsets lies before the end
   abbrev pub places_within : List ℕ → Bool
   places_within p = all_of (λ k. nat_lt k end) p
 
@@ -23,7 +23,7 @@ module _ (end : ℕ) where
   entries_within [] = true
   entries_within (e ∷ m) = what_within e.1.what && entries_within m
 
-  -- each place of each payload lies before the end
+  -- each offset of each payload lies before the end
   abbrev pub logs_within : List (ℕ × Log) → Bool
   logs_within [] = true
   logs_within (l ∷ m) = entries_within l.1.entries && logs_within m

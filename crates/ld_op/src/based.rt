@@ -110,7 +110,7 @@ fn put_loss(out: &mut Vec<u8>, state: &LogState) -> Result<(), NoMemory>
     put_u32(out, state.lost_to())
 }
 
-/// Writes a log's summaries, last known good places and entries.
+/// Writes a log's summaries, last known good offsets and entries.
 fn put_tables(out: &mut Vec<u8>, state: &LogState) -> Result<(), NoMemory>
     ensures { OnOk result (out.new.items ≡ out.old.items ++ tables_based state.now.log) }
 {
@@ -159,7 +159,7 @@ fn put_one_summary(out: &mut Vec<u8>, epoch: u32, summary: &Summary) -> Result<(
     put_summary(out, summary)
 }
 
-/// Writes a count and the last known good places.
+/// Writes a count and the last known good offsets.
 fn put_lngs(out: &mut Vec<u8>, lngs: &KnownGood) -> Result<(), NoMemory>
     ensures { OnOk result (out.new.items ≡ out.old.items ++ (big_bytes 4 (length (filled lngs.now)) ++ lngs_based (filled lngs.now))) }
 {
@@ -168,7 +168,7 @@ fn put_lngs(out: &mut Vec<u8>, lngs: &KnownGood) -> Result<(), NoMemory>
     put_each_lng(out, places)
 }
 
-/// Writes the last known good places.
+/// Writes the last known good offsets.
 fn put_each_lng(out: &mut Vec<u8>, places: &BTreeMap<u32, Option<u32>>) -> Result<(), NoMemory>
     ensures { OnOk result (out.new.items ≡ out.old.items ++ lngs_based (filled places.now.entries)) }
 {
@@ -178,7 +178,7 @@ fn put_each_lng(out: &mut Vec<u8>, places: &BTreeMap<u32, Option<u32>>) -> Resul
     Ok(())
 }
 
-/// Writes a last known good place, where there is one.
+/// Writes a last known good offset, where there is one.
 fn put_lng_there(out: &mut Vec<u8>, epoch: u32, place: &Option<u32>) -> Result<(), NoMemory>
     ensures { OnOk result (out.new.items ≡ out.old.items ++ lngs_based (filled ((epoch, place.now) ∷ []))) }
 {
@@ -188,7 +188,7 @@ fn put_lng_there(out: &mut Vec<u8>, epoch: u32, place: &Option<u32>) -> Result<(
     }
 }
 
-/// Writes an epoch and its last known good place.
+/// Writes an epoch and its last known good offset.
 fn put_one_lng(out: &mut Vec<u8>, epoch: u32, lng: u32) -> Result<(), NoMemory>
     ensures { OnOk result (out.new.items ≡ out.old.items ++ (big_bytes 4 epoch ++ big_bytes 4 lng)) }
 {
@@ -237,7 +237,7 @@ fn put_one_entry(out: &mut Vec<u8>, entry: &Pointed) -> Result<(), NoMemory>
     put_held(out, entry.held())
 }
 
-/// Writes what stands under a number: a tag, and behind a record's its payload's place and length.
+/// Writes what stands under a number: a tag, and behind a record's its payload's offset and length.
 fn put_held(out: &mut Vec<u8>, held: Held) -> Result<(), NoMemory>
     ensures { OnOk result (out.new.items ≡ out.old.items ++ what_based (seen_what held)) }
 {
@@ -253,7 +253,7 @@ fn put_held(out: &mut Vec<u8>, held: Held) -> Result<(), NoMemory>
     }
 }
 
-/// Writes a payload's place and length.
+/// Writes a payload's offset and length.
 fn put_place(out: &mut Vec<u8>, place: Place) -> Result<(), NoMemory>
     ensures { OnOk result (out.new.items ≡ out.old.items ++ (big_bytes 8 (first_place (numbers_from place.at place.len)) ++ big_bytes 2 place.len)) }
 {
@@ -261,7 +261,7 @@ fn put_place(out: &mut Vec<u8>, place: Place) -> Result<(), NoMemory>
     put_short_count(out, place.len)
 }
 
-/// Where a payload begins. One without bytes stands nowhere, and 0 is written for its place.
+/// Where a payload begins. One without bytes stands nowhere, and 0 is written for its offset.
 fn first_place(place: Place) -> u64
     ensures { result ≡ first_place (numbers_from place.at place.len) }
 {

@@ -12,7 +12,7 @@ use crate::pointed::{Held, Place, Pointed};
 use std::collections::BTreeMap;
 
 impl Plain {
-    /// Whether each payload ends at a place or before it. It takes time in the number of entries.
+    /// Whether each payload ends at an offset or before it. It takes time in the number of entries.
     pub fn lies_within(&self, end: u64) -> bool
         ensures { result ≡ logs_within end self.now.state.logs }
     {
@@ -20,7 +20,7 @@ impl Plain {
     }
 }
 
-/// Whether each payload of the logs that are there ends at a place or before it.
+/// Whether each payload of the logs that are there ends at an offset or before it.
 fn logs_lie_within(places: &BTreeMap<u32, LogState>, end: u64) -> bool
     ensures { result ≡ logs_within end (there_of places.now.entries) }
 {

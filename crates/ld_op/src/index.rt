@@ -1,4 +1,4 @@
-// What an index has in common with the plain state that it stands for.
+// What an index has in common with the plain state that it represents.
 ghost use Rattle.std.specs.Prelude.{◌≡◌, ◌++◌, ℕ, List, Bool, map, drop};
 ghost use Rattle.ld_table.specs.Table.{find};
 ghost use Rattle.ld_msg.specs.declared.msg.Body.{Body};
@@ -33,13 +33,13 @@ pub fn answers_leave_payloads()
     ensures missing { (f : ℕ → ℕ) (g : Log) → missing (each_log f g) ≡ missing g }
 {}
 
-/// An op whose body stands at a place of a disk is read there as it was written.
+/// An op whose body stands at an offset of a disk is read there as it was written.
 pub fn placed_ops_are_read()
     ensures { (at : ℕ) (o : Kind) (rest bytes : List ℕ) → drop at bytes ≡ op_bytes o ++ rest → each_op (byte_at bytes) (placed at o) ≡ o }
 {}
 
 /// An index reads the same where the bytes under it are, as long as its logs and entries rise, which ops keep; and once an op's body stands on the disk too, the index with the
-/// op stands for the plain state with the op.
+/// op represents the plain state with the op.
 pub fn indexes_are_read()
     ensures same { (i : State) (before now : List ℕ) → IsOrdered i → AgreeOn (byte_at now) (byte_at before) i → read_plain now i ≡ read_plain before i }
     ensures ordered { (i : State) (o : Kind) → IsRising o → IsOrdered i → IsOrdered (apply i o) }

@@ -39,7 +39,7 @@ pub(crate) struct Marks {
 }
 
 impl Plain {
-    /// The index that stands in the bytes from a place on, and the place behind it. In an older one no epoch was closed
+    /// The index that stands in the bytes from an offset on, and the offset behind it. In an older one no epoch was closed
     /// with a loss. The bytes are refused exactly where they are none, with the first byte of the first field that is cut
     /// off or out of its range.
     pub fn decode_index(
@@ -145,7 +145,7 @@ fn read_based_log(
     Ok(((id, state), next))
 }
 
-/// A log's summaries, last known good places and entries.
+/// A log's summaries, last known good offsets and entries.
 #[tactic(auto, unfolding(crate::specs::Indexed::read_tables))]
 fn read_tables(
     alloc: Global,
@@ -258,7 +258,7 @@ fn is_epoch(least: u64, epoch: u32) -> bool
     least.max(1) <= u64::from(epoch) && epoch <= GREATEST_EPOCH
 }
 
-/// A count, and so many last known good places.
+/// A count, and so many last known good offsets.
 fn read_lngs(alloc: Global, bytes: &[u8], at: usize) -> Result<(KnownGood, usize), FieldFault>
     requires { at ≤ length bytes.now }
     ensures ok { IfOk result (λ p. read_table bytes.now (read_based_lng bytes.now) at ≡ Got (filled p.0) p.1) }
@@ -292,7 +292,7 @@ fn read_so_many_lngs(
     Ok((lngs, next))
 }
 
-/// Keeps the last known good place of the epoch.
+/// Keeps the last known good offset of the epoch.
 fn add_lng(lngs: &mut KnownGood, epoch: u32, lng: u32) -> Result<(), NoMemory>
     ensures { OnOk result (filled lngs.new ≡ put epoch lng (filled lngs.old)) }
 {
@@ -301,7 +301,7 @@ fn add_lng(lngs: &mut KnownGood, epoch: u32, lng: u32) -> Result<(), NoMemory>
     Ok(())
 }
 
-/// An epoch, at least the least, and the last known good place that was told of it. One that is 0 is read.
+/// An epoch, at least the least, and the last known good offset that was told of it. One that is 0 is read.
 #[tactic(auto, unfolding(crate::specs::Indexed::read_based_lng))]
 fn read_based_lng(bytes: &[u8], least: u64, at: usize) -> Result<((u32, u32), usize), FieldFault>
     requires { at ≤ length bytes.now }
@@ -411,7 +411,7 @@ fn read_held(bytes: &[u8], at: usize, tag: u8) -> Result<(Held, usize), FieldFau
     Ok((Held::Rec(place), next))
 }
 
-/// Where a payload stands, and how long it is. The places of its bytes are numbers of 64 bits.
+/// Where a payload stands, and how long it is. The offsets of its bytes are numbers of 64 bits.
 fn read_place(bytes: &[u8], at: usize) -> Result<(Place, usize), FieldFault>
     requires { at ≤ length bytes.now }
     ensures ok { IfOk result (λ p. read_place bytes.now at ≡ Got (Rec (numbers_from p.0.at p.0.len)) p.1) }
@@ -425,7 +425,7 @@ fn read_place(bytes: &[u8], at: usize) -> Result<(Place, usize), FieldFault>
     Ok((Place { at: place, len }, next))
 }
 
-/// Whether so many bytes from the place on stand at numbers of 64 bits.
+/// Whether so many bytes from the offset on stand at numbers of 64 bits.
 fn is_place(at: u64, len: u64) -> bool
     ensures { result ≡ nat_le (at + len) (2 ^ 64 - 1) }
 {

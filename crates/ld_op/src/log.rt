@@ -127,7 +127,7 @@ impl LogState {
         &self.summaries
     }
 
-    /// The last known good places.
+    /// The last known good offsets.
     pub(crate) fn lngs(&self) -> &KnownGood
         ensures { filled result.now ≡ self.now.log.lngs }
     {
@@ -195,14 +195,14 @@ impl LogState {
         self.summaries.get(epoch)
     }
 
-    /// The last known good place that is kept of the epoch, 0 where none is.
+    /// The last known good offset that is kept of the epoch, 0 where none is.
     pub(crate) fn lng(&self, epoch: u32) -> u32
         ensures { result ≡ lng_at self.now.log epoch }
     {
         self.lngs.get(epoch)
     }
 
-    /// The epochs of the summaries rise, and their ends are places of an epoch.
+    /// The epochs of the summaries rise, and their ends are offsets of an epoch.
     pub(crate) fn summaries_rise(&self)
         ensures ordered { Ordered self.now.log.summaries }
         ensures ends { EndInEpochs self.now.log }
@@ -248,7 +248,7 @@ impl LogState {
             .excerpt(alloc, from.value(), last.value(), bridges, carries)
     }
 
-    /// Takes an entry, which has a place, and a last known good place of its epoch, which has one too.
+    /// Takes an entry, which has a place, and a last known good offset of its epoch, which has one too.
     fn accept(&mut self, lng: u32, entry: Pointed)
         requires entry { has_place entry.number self.old.places ≡ true }
         requires lng { has_place (epoch_of entry.number) self.old.lngs ≡ true }
@@ -306,7 +306,7 @@ impl LogState {
         self.lost = false;
     }
 
-    /// Takes entries that were missing, each of which has a place, and whose bytes stand from this place of the disk on.
+    /// Takes entries that were missing, each of which has a place, and whose bytes stand from this offset of the disk on.
     fn refill(&mut self, entries: &[Entry], at: u64)
         requires places { have_places entries.now self.old.places ≡ true }
         requires fits { at + entries_length entries.now < 2 ^ 64 }
@@ -328,7 +328,7 @@ impl LogState {
         };
     }
 
-    /// Makes places for what an op adds. Without memory nothing changes.
+    /// Makes offsets for what an op adds. Without memory nothing changes.
     pub(crate) fn room(&mut self, op: &Op) -> Result<(), NoMemory>
         ensures there { self.new.there ≡ self.old.there }
         ensures log { self.new.log ≡ self.old.log }
@@ -348,7 +348,7 @@ impl LogState {
         }
     }
 
-    /// Applies an op of this log, for which there is room, and whose body stands from this place of the disk on.
+    /// Applies an op of this log, for which there is room, and whose body stands from this offset of the disk on.
     pub(crate) fn apply(&mut self, op: Op, at: u64)
         requires room { log_has_room self.old op ≡ true }
         requires names { log_named op ≢ None }

@@ -96,7 +96,7 @@ impl LogMap {
         self.places(log, op)
     }
 
-    /// Makes places in a log.
+    /// Makes offsets in a log.
     fn places(&mut self, log: LogId, op: &Op) -> Result<(), NoMemory>
         ensures same { there_of self.new ≡ there_of self.old }
         ensures room { OnOk result (has_room_in op.now (find log self.new) ≡ true) }
@@ -107,7 +107,7 @@ impl LogMap {
         state.room(op)
     }
 
-    /// Applies an op of a log, for which there is room, and whose body stands from this place of the disk on.
+    /// Applies an op of a log, for which there is room, and whose body stands from this offset of the disk on.
     pub(crate) fn apply(&mut self, log: LogId, op: Op, at: u64)
         requires room { has_room_in op (find log self.old) ≡ true }
         requires names { log_named op ≢ None }

@@ -130,7 +130,7 @@ impl Plain {
         }
     }
 
-    /// The last known good place that stores told of the epoch, 0 where none did or the epoch is clean here.
+    /// The last known good offset that stores told of the epoch, 0 where none did or the epoch is clean here.
     #[tactic(auto, using(ld_table::proofs::Laws::table_rules))]
     pub fn lng(&self, log: LogId, epoch: u32) -> u32
         ensures { result ≡ lng_at (log_of self.now.state log) epoch }
@@ -259,7 +259,7 @@ impl Plain {
         }
     }
 
-    /// Applies an op, for which there is room, and whose body stands from this place of the disk on.
+    /// Applies an op, for which there is room, and whose body stands from this offset of the disk on.
     pub fn apply(&mut self, op: Op, at: u64)
         requires room { HasRoom self.old op }
         requires fits { at + op_length op < 2 ^ 64 }

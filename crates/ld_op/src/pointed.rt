@@ -14,7 +14,7 @@ use ld_lsn::Lsn;
 use ld_msg::{Entry, What};
 use std::marker::Model;
 
-/// Where a payload stands on a disk: the place of its first byte, and how many bytes it has.
+/// Where a payload stands on a disk: the offset of its first byte, and how many bytes it has.
 #[derive(Clone, Copy)]
 pub struct Place {
     pub at: u64,
@@ -37,7 +37,7 @@ pub(crate) enum Held {
 }
 
 /// What an index holds under a number, and the epoch of the sequencer that sent it. Contracts see it as an entry whose
-/// payload is the places of its bytes.
+/// payload is the offsets of its bytes.
 #[derive(Drop)]
 pub struct Pointed {
     number: Lsn,
@@ -55,7 +55,7 @@ impl Model for Pointed {
 }
 
 impl Pointed {
-    /// An entry whose bytes stand from this place of a disk on.
+    /// An entry whose bytes stand from this offset of a disk on.
     pub fn at(entry: &Entry, at: u64) -> Pointed
         requires { at + entry_length entry.now < 2 ^ 64 }
         ensures { result ≡ placed_entry at entry.now }
@@ -184,7 +184,7 @@ impl Pointed {
     }
 }
 
-/// What stands under a number, its bytes from this place of a disk on: thirteen of the entry before it, and two of a
+/// What stands under a number, its bytes from this offset of a disk on: thirteen of the entry before it, and two of a
 /// payload's length.
 fn held_at(what: &What, at: u64) -> Held
     requires { at + 13 + what_length what.now < 2 ^ 64 }

@@ -63,7 +63,7 @@ fn log_length(state: &LogState) -> u64
     }
 }
 
-/// How many bytes a log's summaries, last known good places and entries take.
+/// How many bytes a log's summaries, last known good offsets and entries take.
 fn tables_length(state: &LogState) -> u64
     ensures { result ≡ min (length (tables_based state.now.log)) (2 ^ 64 - 1) }
 {
@@ -156,7 +156,7 @@ pub(crate) fn count_summaries(places: &BTreeMap<u32, Option<Summary>>) -> u64
     count
 }
 
-/// How many last known good places there are.
+/// How many last known good offsets there are.
 pub(crate) fn count_lngs(places: &BTreeMap<u32, Option<u32>>) -> u64
     ensures { result ≡ length (filled places.now.entries) }
 {
@@ -244,7 +244,7 @@ fn add_start(out: &mut Vec<u64>, held: Held) -> Result<(), NoMemory>
     }
 }
 
-/// Lists the place of a payload that has bytes.
+/// Lists the offset of a payload that has bytes.
 fn add_place(out: &mut Vec<u64>, place: Place) -> Result<(), NoMemory>
     ensures { OnOk result (out.new.items ≡ out.old.items ++ first_of (numbers_from place.at place.len)) }
 {

@@ -1,4 +1,4 @@
--- The calls on an object of the outside, and what passed in them.
+-- The calls on an object of the environment, and what passed in them.
 use Rattle.std.specs.Prelude.{ℕ, List, [], ◌∷◌, ◌++◌}
 
 -- a call with its answer: its numbers, and its bytes

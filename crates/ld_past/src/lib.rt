@@ -1,4 +1,4 @@
-//! The calls that were made on an object of the outside, as a list that only clauses read.
+//! The calls that were made on an object of the environment, as a list that only clauses read.
 #![tactic(auto)]
 
 mod past;

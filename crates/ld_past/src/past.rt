@@ -5,7 +5,7 @@ ghost use Rattle.ld_past.specs.Events.{Event, event_of};
 
 use std::marker::{Model, PhantomData};
 
-/// The calls on an object of the outside with their answers, the newest first. No memory holds it.
+/// The calls on an object of the environment with their answers, the newest first. No memory holds it.
 #[derive(Drop)]
 pub struct Past {
     marker: PhantomData<u8>,

@@ -217,7 +217,7 @@ decides es = record { decided = λ s. (decides_one s es).decided; content = λ l
 
 -- ---- the greatest place ----
 
--- a number is the greatest place of a record, a hole or a plug
+-- a number is the greatest offset of a record, a hole or a plug
 pub record IsTop (f : ℕ → Option Entry) (top : ℕ) : Type 0 where
   pub bounds : (s : ℕ) → is_content (f s) ≡ true → esn_of s ≤ top
   pub reached : (top ≡ 0) ⊎ ((s : ℕ) × (esn_of s ≡ top) × (is_content (f s) ≡ true))

@@ -1,4 +1,4 @@
--- The greatest place of a digest at which a record, a hole or a plug stands.
+-- The greatest offset of a digest at which a record, a hole or a plug stands.
 use Rattle.std.proofs.Common.{◌≡◌, ◌⊎◌, ℕ, ◌<◌, ◌≤◌, max, List, [], ◌∷◌, Option, Some, None, Bool, true, false, not, refl, ap, sym, ◌∙◌, subst, arith, nat_lt, inl, inr}
 use Rattle.std.specs.Prelude.{◌&&◌, if◌then◌else◌}
 use Rattle.std.proofs.lemmas.Bool.{cases_Bool, cases_lt}

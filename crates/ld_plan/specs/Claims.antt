@@ -16,7 +16,7 @@ unfoldable pub last_for : ℕ → List Entry → Option Entry
 last_for s [] = None
 last_for s (e ∷ es) = or_else (last_for s es) (says s e)
 
--- what the claims so far decide: the entry of each number, a bridge above which nothing else counts, and the greatest place of a record, a hole or a plug
+-- what the claims so far decide: the entry of each number, a bridge above which nothing else counts, and the greatest offset of a record, a hole or a plug
 pub record Decided : Type 0 where
   pub entries : List (ℕ × Entry)
   pub bridge : Option ℕ

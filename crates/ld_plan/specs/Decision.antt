@@ -11,12 +11,12 @@ use Rattle.ld_plan.specs.Claims.{Decided}
 abbrev pub lets_plan : Spec → Bool → List Told → Bool
 lets_plan s loss d = if loss then is_spent s d else enough s d
 
--- each number has what the best statement says, and the greatest place is known
+-- each number has what the best statement says, and the greatest offset is known
 pub record IsDecision (d : List Told) (c : Decided) : Type 0 where
   pub content : (loss : Bool) (s : ℕ) → content loss (find s c.entries) ≡ content loss (best s d)
   pub top : c.top ≡ top_place d d
 
--- what stands at so many places from one on
+-- what stands at so many offsets from one on
 unfoldable pub record_items_from : ℕ → Bool → List (ℕ × Entry) → ℕ → ℕ → List Item
 record_items_from epoch loss entries place zero = []
 record_items_from epoch loss entries place (suc k) = record { number = numbered epoch place; what = content loss (find (numbered epoch place) entries) } ∷ record_items_from epoch loss entries (place + 1) k

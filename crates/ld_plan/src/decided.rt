@@ -11,7 +11,7 @@ use std::collections::BTreeMap;
 use std::marker::Model;
 
 /// What the claims so far decide, the greatest ballot first: the entry of each number, a bridge
-/// above which nothing else counts, and the greatest place of a record, a hole or a plug.
+/// above which nothing else counts, and the greatest offset of a record, a hole or a plug.
 #[derive(Drop)]
 pub struct Decided<'a> {
     entries: BTreeMap<Lsn, Claim<'a>>,
@@ -47,7 +47,7 @@ impl<'a> Decided<'a> {
         self.entries.get(&number)
     }
 
-    /// The greatest place of a record, a hole or a plug, 0 where there is none.
+    /// The greatest offset of a record, a hole or a plug, 0 where there is none.
     pub fn top(&self) -> u32
         ensures { result ≡ self.now.top }
     {

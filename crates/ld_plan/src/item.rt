@@ -78,7 +78,7 @@ impl Items {
     }
 }
 
-/// How an epoch is to be closed: its trim as it was found, its last known good place, the place of its
+/// How an epoch is to be closed: its trim as it was found, its last known good offset, the offset of its
 /// bridge, whether it says what is lost, and what is to stand under each number above the first two, the bridge last.
 #[derive(Drop)]
 pub struct Plan {

@@ -13,7 +13,7 @@ use ld_lsn::Lsn;
 use ld_msg::{Entry, What};
 use std::alloc::Global;
 
-// The greatest place of an epoch.
+// The greatest offset of an epoch.
 const LAST_ESN: u32 = u32::MAX;
 
 // Adds the claims of a node.
@@ -62,7 +62,7 @@ fn greatest_trim(told: &[Told]) -> Lsn
     greatest
 }
 
-// The trim as a place of the epoch.
+// The trim as an offset of the epoch.
 fn trim_place(epoch: u32, trim: Lsn) -> u32
     ensures place { result ≡ trim_place epoch trim }
     ensures below { result < last_esn }
@@ -83,7 +83,7 @@ fn no_record(loss: bool) -> What
     if loss { What::Plug } else { What::Hole }
 }
 
-// The record that is decided for the number, or else what stands for none.
+// The record that is decided for the number, or else a value that represents none.
 fn what(alloc: Global, decided: &Decided, loss: bool, number: Lsn) -> Result<What, NoMemory>
     ensures { IfOk result (λ what. what ≡ content loss (find number decided.now.entries)) }
 {
@@ -96,7 +96,7 @@ fn what(alloc: Global, decided: &Decided, loss: bool, number: Lsn) -> Result<Wha
     }
 }
 
-// What stands from a place of the epoch up to the end.
+// What stands from an offset of the epoch up to the end.
 #[tactic(auto, unfolding(crate::specs::Decision::record_items_from))]
 fn items(
     alloc: Global,
@@ -122,8 +122,8 @@ fn items(
 ///
 /// The statement of a number is that of the greatest ballot over all entries of the number and all
 /// bridges below it; of equal ballots the lowest node's, and of one node's the entry's. The end is
-/// one above the greatest place whose statement is a record, a hole or a plug, at least 1, and above the
-/// trim and the greatest last known good place that was told. Above these two and below the end stands
+/// one above the greatest offset whose statement is a record, a hole or a plug, at least 1, and above the
+/// trim and the greatest last known good offset that was told. Above these two and below the end stands
 /// the record where the statement is one, else a plug where it says what is lost, and else a hole; at
 /// the end stands the bridge.
 ///

@@ -36,7 +36,7 @@ unheard h f = unnoted h.noted (with_reader f (record f.reader { held = restored 
 
 -- ---- the items ----
 
--- the reader at a place, with its confirmation if that lasts
+-- the reader at an offset, with its confirmation if that lasts
 abbrev pub placed : Reader → Place → Bool → Reader
 placed d p lasts = record d { next = p.next; until = p.until; confirming = if lasts then d.confirming else None }
 

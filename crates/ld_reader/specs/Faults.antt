@@ -5,7 +5,7 @@ use Rattle.ld_register.specs.declared.fault.RegisterFault.TheVariants as registe
 use Rattle.ld_reader.specs.declared.fault.ReaderFault.{ReaderFault}
 use Rattle.ld_reader.specs.declared.fault.ReaderFault.TheVariants as readers
 
--- want of memory passes as such
+-- running out of memory passes as such
 abbrev pub of_register : RegisterFault → ReaderFault
 of_register registers.NoMemory = readers.NoMemory
 of_register registers.Failed = readers.Register registers.Failed

@@ -1,4 +1,4 @@
--- What a reader's values stand for.
+-- What a reader's values represent.
 use Rattle.std.specs.Prelude.{ℕ, List, Option, Some, None}
 use Rattle.std.specs.Option.{unwrap_or}
 use Rattle.ld_ids.specs.declared.set.Spec.{Spec}

@@ -22,7 +22,7 @@ use ld_msg::Outbox;
 use std::alloc::Global;
 
 impl Reader {
-    // Who is to send each payload in a round that begins at a place with this look, where one node is
+    // Who is to send each payload in a round that begins at an offset with this look, where one node is
     // to: none where all nodes are to send (`full`).
     fn senders_at(&self, place: &Place, seen: &Seen, full: bool) -> Option<Senders>
         requires { is_past place.now ≡ false }

@@ -9,7 +9,7 @@ use thiserror::Error;
 /// Why a reader refuses a call.
 #[derive(Clone, Copy, Debug, PartialEq, Eq, Error)]
 pub enum ReaderFault {
-    /// The register refused a look so. It is never want of memory.
+    /// The register refused a look so. It is never out of memory.
     #[error("the register refused: {0}")]
     Register(RegisterFault),
     /// There is no memory left.

@@ -38,7 +38,7 @@ impl Place {
         }
     }
 
-    /// The same place.
+    /// The same offset.
     pub fn copy(&self) -> Place
         ensures same { result ≡ self.now }
         ensures first { 0 < self.now.next }

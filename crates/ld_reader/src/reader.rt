@@ -103,7 +103,7 @@ pub struct Heard {
 }
 
 impl Reader {
-    /// A reader of the log from a number to another, both included; `number` is its place in the
+    /// A reader of the log from a number to another, both included; `number` is its position in the
     /// order of opening, at most 999. The nodes of `first` are asked where the register shows none.
     /// By its style each node sends each payload, or one node does.
     pub fn start(
@@ -221,7 +221,7 @@ impl Reader {
     /// is left, or where the next number is the one that was polled last.
     ///
     /// It is refused with `Register` and `Failed` or `Damaged` exactly as the look is, where one is
-    /// made, and for want of memory. Then nothing is sent, and the reader is as it was. A look changes
+    /// made, and when out of memory. Then nothing is sent, and the reader is as it was. A look changes
     /// nothing of the register.
     pub fn ask<G: Register>(
         &mut self,
@@ -361,7 +361,7 @@ impl Reader {
     ///
     /// It is refused with `Register` and `Failed` or `Damaged` exactly as the look is, and only where
     /// one was due: before a loss that is confirmed, or with a round, which would have begun whatever
-    /// the look showed. It is refused for want of memory too. Then no item is given, nothing is sent,
+    /// the look showed. It is refused when out of memory too. Then no item is given, nothing is sent,
     /// and the reader is as it was: it doesn't hold the answer. A look changes nothing of the register.
     pub fn on_reply<G: Register>(
         &mut self,

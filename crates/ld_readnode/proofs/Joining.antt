@@ -291,7 +291,7 @@ digest_covers g epoch from o a f l =
 readable_given : (g : Log) (last : ℕ) → Ordered g.entries → AreNumbered g → AreGiven last (λ n. readable g n last)
 readable_given g last o a = some_given last (λ e. not (is_bridge e.what)) (λ n. entries_within g n last) (all_given g last o a)
 
--- a place of an epoch belongs to it
+-- an offset of an epoch belongs to it
 home_is : (epoch n : ℕ) → numbered epoch 1 ≤ n → n ≤ numbered epoch last_esn → (home_epoch n ≡ epoch) × (home_esn n ≡ n - numbered epoch 0)
 home_is epoch n h k = elim (cases_Bool (esn_of n == 0)) [
   | inl none ↦ let e : esn_of n ≡ 0 = grind (arith, nat_tests) in absurd (omega arith)

@@ -25,7 +25,7 @@ struct Ask {
 
 /// The answer to an ask for what stands at a number and behind it. The message is a ReadAsk, and `released` the
 /// log's released number as this node knows it. A page has at most 64 entries; it takes time in what it gives,
-/// and in the bridges and unused places that it passes, not in all entries of the log.
+/// and in the bridges and unused offsets that it passes, not in all entries of the log.
 pub fn answer(alloc: Global, plain: &Plain, released: Lsn, msg: &Msg) -> Result<Draft, NoMemory>
     requires { IsReadAsk msg.now.body }
     ensures { IfOk result (λ answer. answer ≡ read_answered plain.now.state released msg.now) }

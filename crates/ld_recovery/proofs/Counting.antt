@@ -36,7 +36,7 @@ fresh_here y e m false h =
 fresh_behind : (y n : ℕ) (e : ℕ × Planned) (m k : List (ℕ × Planned)) (b : Bool) → has_settled y e ≡ b → how_many (has_settled y) k ≡ how_many (has_settled y) m + n → how_many (has_settled y) (e ∷ k) ≡ how_many (has_settled y) (e ∷ m) + n
 fresh_behind y n e m k b h i = let a = count_if (has_settled y) e m b h in let d = count_if (has_settled y) e k b h in omega (arith, a, d, i)
 
--- the node settles the item at a place, which it had settled before or not
+-- the node settles the item at an offset, which it had settled before or not
 pub fresh_at : (i y n : ℕ) (m : List (ℕ × Planned)) (e d : ℕ × Planned) (had : Bool) → i < length m → e ≡ get_or m i e → d ≡ settled_one y e → had ≡ is_in y e.1.settled → n ≡ one_if (not had)
     → how_many (has_settled y) (set m i d) ≡ how_many (has_settled y) m + n
 fresh_at i y n [] e d had h g w k l = absurd (omega arith)
@@ -178,7 +178,7 @@ and_true : (b : Bool) → (b && true) ≡ b
 and_true true = refl
 and_true false = refl
 
--- all nodes are looked at, those from a place on, of which there is none, among them
+-- all nodes are looked at, those from an offset on, of which there is none, among them
 pub all_done : (lost counts ns : List ℕ) (many i : ℕ) (each : Bool) → length ns ≤ i → (each && all_of (is_done lost counts many) (drop i ns)) ≡ all_of (is_done lost counts many) ns → each ≡ all_of (is_done lost counts many) ns
 all_done lost counts ns many i each h e = sym (and_true each) ∙ (ap (λ (l : List ℕ). each && all_of (is_done lost counts many) l) (sym (drop_of_length-le ns h)) ∙ e)
 

@@ -35,7 +35,7 @@ placed Bridge esn h n = absurd cc
 placed Plug esn h n = omega (arith, h)
 placed Withheld esn h n = omega (arith, h)
 
--- only a bridge stands at the last place of an epoch
+-- only a bridge stands at the last offset of an epoch
 pub in_place : (es : List Entry) → AreEntries es → AreInPlace es
 in_place [] h = tt
 in_place (e ∷ es) h = (λ n. placed e.what (esn_of e.number) h.0.place n, in_place es h.1)

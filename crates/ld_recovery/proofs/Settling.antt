@@ -57,7 +57,7 @@ unfolding settle_at
 settle_number n y f [] a h = refl
 settle_number n y f (e ∷ m) a h = number_cases n y f e m (e.0 == n) refl a h (λ k. settle_number n y (f + 1) m a.1 k)
 
--- a place past the last item settles nothing
+-- an offset past the last item settles nothing
 pub settle_past : (i y : ℕ) (m : List (ℕ × Planned)) → length m ≤ i → settle_at i y m ≡ m
 unfolding settle_at
 settle_past i y [] h = refl
@@ -107,7 +107,7 @@ first_all k y [] = refl
 first_all zero y (e ∷ m) = ap (λ k. settle_first k y (e ∷ m)) (let z : min 0 (length (e ∷ m)) ≡ 0 = omega arith in z)
 first_all (suc k) y (e ∷ m) = first_more (min (suc k) (length (e ∷ m))) (min k (length m)) y e m (omega arith) ∙ ap (λ r. settled_one y e ∷ r) (first_all k y m)
 
--- one more place
+-- one more offset
 pub first_then : (k y : ℕ) (m : List (ℕ × Planned)) → settle_at k y (settle_first k y m) ≡ settle_first (k + 1) y m
 unfolding settle_at settle_first
 first_then k y [] = refl

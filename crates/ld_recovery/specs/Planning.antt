@@ -37,7 +37,7 @@ lacks factor e = nat_lt (length e.1.settled) factor
 abbrev pub settled_one : ℕ → ℕ × Planned → ℕ × Planned
 settled_one y e = (e.0, record { what = e.1.what; settled = with_one y e.1.settled })
 
--- the node settled the item at the place, where there is one
+-- the node settled the item at the offset, where there is one
 unfoldable pub settle_at : ℕ → ℕ → List (ℕ × Planned) → List (ℕ × Planned)
 settle_at i y [] = []
 settle_at zero y (e ∷ m) = settled_one y e ∷ m

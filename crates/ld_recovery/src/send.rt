@@ -132,7 +132,7 @@ impl Sender {
         Ok(())
     }
 
-    /// Sends an item with a last known good place to each of the nodes, in their order. Without memory some may have been sent.
+    /// Sends an item with a last known good offset to each of the nodes, in their order. Without memory some may have been sent.
     pub fn send_item(
         &self,
         alloc: Global,
@@ -148,7 +148,7 @@ impl Sender {
         self.send_each(alloc, number, lng, &Stored::Item(what), nodes, out)
     }
 
-    /// Sends an item with a last known good place to each node of the set that is in neither list, in their order. Without
+    /// Sends an item with a last known good offset to each node of the set that is in neither list, in their order. Without
     /// memory some may have been sent.
     #[tactic(auto, using(crate::proofs::Begins::begin_rules))]
     pub(crate) fn send_left(
@@ -174,7 +174,7 @@ impl Sender {
         Ok(())
     }
 
-    /// Sends a record with a last known good place to each of the nodes, in their order. Without memory some may have been sent.
+    /// Sends a record with a last known good offset to each of the nodes, in their order. Without memory some may have been sent.
     pub fn send_record(
         &self,
         alloc: Global,

@@ -49,7 +49,7 @@ impl Model for Storing {
 
 impl Storing {
     /// A plan that is to be sent in its wave 0. Its items have the numbers from one on, its end is at least 1, and its last
-    /// known good place is below the last place of an epoch.
+    /// known good offset is below the last offset of an epoch.
     pub fn new(alloc: Global, spec: &Spec, plan: Plan) -> Result<Storing, NoMemory>
         requires factor { 1 ≤ spec.now.r }
         requires numbers { (first : ℕ) × AreFrom first (planned plan.items) }
@@ -349,7 +349,7 @@ fn settle_first(
     Gain { filled, fresh }
 }
 
-// The node settled the item at the place: each part of the gain is 1 or 0.
+// The node settled the item at the offset: each part of the gain is 1 or 0.
 fn settle_at(items: &mut Vec<Planned>, place: usize, node: NodeId, factor: u8) -> Gain
     requires { place < length items.old.items }
     ensures items { items.new.items ≡ settle_at place node items.old.items }

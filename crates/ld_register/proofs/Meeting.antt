@@ -515,7 +515,7 @@ module _ {D : Type 0} {g : Ghosts D} where
       → IsDue old mid x given answer after → Meets old mid (granting given) answer (λ c. c)
   meets_unmade counts image old mid x given answer after d = meets_answered counts image old mid (granting (tt {0})) (granting given) answer (λ c. c) (as_done d.loads) d.ready (λ f. absurd (cc f)) (λ p f. absurd (cc f)) (λ c m. ((d.answers c m).0, refl))
 
-  -- a new disk in memory stands for nothing
+  -- a new disk in memory represents nothing
   pub foretells_empty : (seen_is : (disk : D) (p : Plain) → g.plain disk ≡ Some p → g.seen disk ≡ Some p.state.bytes) (r : DiskRegister D g) → is_loaded r ≡ false → g.plain (owned r) ≡ Some new_disk → Foretells r empty_register
   foretells_empty seen_is r unloaded is = record {
     holds = holds_unloaded r empty_register (record { bytes = 0 ∷ []; seen_is = seen_is (owned r) new_disk is; stands = empty_stands }) unloaded;

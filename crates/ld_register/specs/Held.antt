@@ -44,7 +44,7 @@ module _ {D : Type 0} {g : Ghosts D} where
   abbrev pub Replays : DiskRegister D g → Register → Type 0
   Replays r c = IsReplayed g.seen g.may_leave r.journal r.contents c
 
-  -- the bytes that are read stand for it
+  -- the bytes that are read represent it
   pub record ReadsAs (r : DiskRegister D g) (c : Register) : Type 0 where
     pub bytes : List ℕ
     pub seen_is : g.seen (owned r) ≡ Some bytes
@@ -53,7 +53,7 @@ module _ {D : Type 0} {g : Ghosts D} where
   abbrev pub IsBroken : DiskRegister D g → ℕ → Type 0
   IsBroken r place = IfSome (g.seen (owned r)) (IsDamaged place)
 
-  -- the bytes stand for it and for nothing else, and what is in memory once it is loaded is what they stand for
+  -- the bytes represent it and for nothing else, and what is in memory once it is loaded is what they represent
   pub record Holds (r : DiskRegister D g) (c : Register) : Type 0 where
     pub reads : ReadsAs r c
     pub one : (d : Register) → ReadsAs r d → c ≡ d
@@ -64,11 +64,11 @@ module _ {D : Type 0} {g : Ghosts D} where
     pub honest : IsHonest (g.seen (owned r))
     pub loaded : is_loaded r ≡ true → (c : Register) × Replays r c
 
-  -- a crash may leave bytes that stand for it
+  -- a crash may leave bytes that represent it
   abbrev pub MayHold : DiskRegister D g → Register → Type 0
   MayHold r c = (bytes : List ℕ) × g.may_leave (owned r) bytes × StandsFor bytes c
 
-  -- a crash leaves bytes that stand for one of these, and no others; so one of these is held, and nothing else may be
+  -- a crash leaves bytes that represent one of these, and no others; so one of these is held, and nothing else may be
   pub record LeavesOneOf (r : DiskRegister D g) (cs : List Register) : Type 0 where
     pub each : (bytes : List ℕ) → g.may_leave (owned r) bytes → OneOf (StandsFor bytes) cs
     pub held : Tells r → OneOf (Holds r) cs
@@ -128,7 +128,7 @@ module _ {D : Type 0} {g : Ghosts D} where
 
   -- ---- a whole call ----
 
-  -- bytes that a crash might have left before the call, or that stand for what was held, with the change or without
+  -- bytes that a crash might have left before the call, or that represent what was held, with the change or without
   abbrev pub LeftBy : DiskRegister D g → (Register → Register) → List ℕ → Type 0
   LeftBy old after bytes = g.may_leave (owned old) bytes ⊎ ((c : Register) × Holds old c × (StandsFor bytes c ⊎ StandsFor bytes (after c)))
 

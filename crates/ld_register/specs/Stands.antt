@@ -1,4 +1,4 @@
--- What the bytes of a register's disk stand for.
+-- What the bytes of a register's disk represent.
 use Rattle.std.specs.Prelude.{◌≡◌, ◌⊎◌, ◌<◌, ◌^◌, ℕ, List, [], ◌∷◌, ◌++◌, length, Option, Some}
 use Rattle.ld_msg.specs.Register.{Register, empty_register}
 use Rattle.ld_journal.specs.Format.{framed, records, Fits, IsJournal, IsCutShort}
@@ -33,7 +33,7 @@ pub record IsForeign (c : Register) (rest : List ℕ) : Type 0 where
   pub fits : length body < 2 ^ 32
   pub none : (x : Change) → IsNext c body x → ⊥
 
--- the records before this place are changes, and the one there is cut short or no next change; or there is no byte
+-- the records before this offset are changes, and the one there is cut short or no next change; or there is no byte
 pub record IsDamaged (place : ℕ) (bytes : List ℕ) : Type 0 where
   pub bodies : List (List ℕ)
   pub rest : List ℕ

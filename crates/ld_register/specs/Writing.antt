@@ -23,7 +23,7 @@ pub record Made {T : Type 0} (calls : List Call) (p : Plain) (result : Result T 
   pub left_is : left ≡ Some (after_calls calls p)
   pub all : is_ok result ≡ all_succeed calls p
 
--- at Ok and Failed the load and these were made; another refusal comes behind the load, or before it for want of memory
+-- at Ok and Failed the load and these were made; another refusal comes behind the load, or before it when out of memory
 pub record Writes {T : Type 0} (loaded : Bool) (calls : List Call) (p : Plain) (result : Result T RegisterFault) (left : Option Plain) : Type 0 where
   pub made : IsOk result ⊎ IsErrOf result faults.Failed → Made (with_load loaded calls) p result left
   pub refused : OnErr result (IsErrOf result faults.Failed ⊎ (IsErrOf result faults.NoMemory × (left ≡ Some p))
@@ -44,7 +44,7 @@ change_calls c x = append_calls (c.length - 1) (change_bytes x)
 abbrev pub swap_calls : Register → ℕ → ℕ → ℕ → ℕ → List Call
 swap_calls c l upto old new = if swappable c l upto old new == 0 then [] else change_calls c (changes.Swap l upto old new)
 
--- a call makes those calls that belong to what is held, and only those of a load of bytes that stand for nothing
+-- a call makes those calls that belong to what is held, and only those of a load of bytes that represent nothing
 pub record WritesBy {D : Type 0} {g : Ghosts D} {T : Type 0} (old new : DiskRegister D g) (calls : Register → List Call) (p : Plain) (result : Result T RegisterFault) : Type 0 where
   pub held : (c : Register) → Holds old c → Writes (is_loaded old) (calls c) p result (g.plain (owned new))
   pub unheld : is_loaded old ≡ false → ((c : Register) → Holds old c → ⊥) → Writes false [] p result (g.plain (owned new))

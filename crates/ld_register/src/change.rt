@@ -30,7 +30,7 @@ pub(crate) const GREATEST_EPOCH: u32 = u32::MAX - 1;
 /// How many nodes at most are asked beyond the factor.
 const MOST_EXTRAS: u8 = 3;
 
-// The greatest last known good place of an epoch.
+// The greatest last known good offset of an epoch.
 const GREATEST_LNG: u32 = u32::MAX - 1;
 
 /// A change of a register, as one record of its journal.
@@ -201,7 +201,7 @@ fn put_spec(out: &mut Vec<u8>, spec: &Spec) -> Result<(), NoMemory>
     Ok(())
 }
 
-/// The number in the two bytes at a place.
+/// The number in the two bytes at an offset.
 fn half_word(body: &[u8], at: usize) -> u16
     requires { at + 2 ≤ length body.now }
     ensures { to_be_bytes w16 result ≡ take 2 (drop at body.now) }
@@ -209,7 +209,7 @@ fn half_word(body: &[u8], at: usize) -> u16
     u16::from_be_bytes([body[at], body[at + 1]])
 }
 
-/// The number in the four bytes at a place.
+/// The number in the four bytes at an offset.
 fn word(body: &[u8], at: usize) -> u32
     requires { at + 4 ≤ length body.now }
     ensures { to_be_bytes w32 result ≡ take 4 (drop at body.now) }
@@ -217,7 +217,7 @@ fn word(body: &[u8], at: usize) -> u32
     u32::from_be_bytes([body[at], body[at + 1], body[at + 2], body[at + 3]])
 }
 
-/// The number in the eight bytes at a place.
+/// The number in the eight bytes at an offset.
 fn long_word(body: &[u8], at: usize) -> u64
     requires { at + 8 ≤ length body.now }
     ensures { to_be_bytes w64 result ≡ take 8 (drop at body.now) }

@@ -10,10 +10,10 @@ use thiserror::Error;
 /// Why a register refuses a call.
 #[derive(Clone, Copy, Debug, PartialEq, Eq, Error)]
 pub enum RegisterFault {
-    /// A call of the outside failed. The change is made or not.
+    /// A call of the environment failed. The change is made or not.
     #[error("the register failed")]
     Failed,
-    /// From this place on the register's bytes are no journal of its changes.
+    /// From this offset on the register's bytes are no journal of its changes.
     #[error("the register's journal is damaged")]
     Damaged(u64),
     /// As many other logs are held as may be.

@@ -62,11 +62,11 @@ pub trait Register {
     /// A crash at this moment leaves one of these, and nothing else.
     ghost leaves: { Self → List Contents → Type 0 };
 
-    /// Each call will answer and change just what it does of these contents with their armed fault, want of memory
+    /// Each call will answer and change just what it does of these contents with their armed fault, running out of memory
     /// aside.
     ghost tells: { Self → Contents → Type 0 };
 
-    /// From this place on its bytes are no journal of its changes.
+    /// From this offset on its bytes are no journal of its changes.
     ghost damaged: { Self → ℕ → Type 0 };
 
     /// How often a call has failed, up to the greatest 64-bit number.

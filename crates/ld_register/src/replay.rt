@@ -18,7 +18,7 @@ use ld_disk::Disk;
 use ld_journal::Journal;
 use std::alloc::Global;
 
-/// Makes the change of the record at a place, where it is the next one.
+/// Makes the change of the record at an offset, where it is the next one.
 pub(crate) fn replay_body(
     alloc: Global,
     contents: &mut Contents,

@@ -121,7 +121,7 @@ pub round_cause_since : {R : Type 0} (x : Option Input) (o q k n m : ℕ) (a b c
 round_cause_since x o q k n m a b c (Ok v) t i = i
 round_cause_since x o q k n m a b c (Err e) t i = of_ending x o q k m a c e (ending_since k n m a b c e t i)
 
--- a round's ending is neither where it is done, nor at a line that is off
+-- a round's ending is neither where it is done, nor at a line with a syntax error
 pub partly : (k m : ℕ) (a c : Option (List ℕ)) (e : Ended) → IsEnding k m a c e → IsPartly e
 partly k m a c ends.Done i = i.said
 partly k m a c (ends.BadLine line place) i = i.said

@@ -37,7 +37,7 @@ pub after_none : (c : Config) (s : State) → state_after c s [] ≡ s
 unfolding state_after
 after_none c s = refl
 
--- neither done, nor at a line that is off
+-- neither done, nor at a line with a syntax error
 abbrev pub IsPartly : Ended → Type 0
 IsPartly ends.Done = ⊥
 IsPartly (ends.BadLine line place) = ⊥

@@ -7,7 +7,7 @@ use Rattle.ld_msg.specs.declared.msg.Msg.{Msg}
 use Rattle.ld_rounds.specs.News.{is_answer}
 use Rattle.ld_rounds.specs.Drives.{own_lines, Driver}
 
--- the actor stands for its part of the state then, neither nodes nor messages have changed, and the lines and the messages are those, all its own
+-- the actor represents its part of the state then, neither nodes nor messages have changed, and the lines and the messages are those, all its own
 pub record IsActed (stands : State → Type 0) (s : State) (ls : List Line) (ms : List Msg) (done : Done) : Type 0 where
   pub actor : stands done.state
   pub nodes : done.state.nodes ≡ s.nodes

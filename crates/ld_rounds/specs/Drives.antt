@@ -1,4 +1,4 @@
--- What a drive stands for, and the steps of the written machine that it takes.
+-- What a drive represents, and the steps of the written machine that it takes.
 use Rattle.std.specs.Prelude.{ℕ, ◌≡◌, ◌⊎◌, ◌≤◌, ◌<◌, ◌+◌, List, [], ◌∷◌, length, Bool, true, false, filter, Option, None, Some}
 use Rattle.std.specs.List.{AllByRecursion}
 use Rattle.std.specs.Io.KnownBytes.{Appends}
@@ -135,14 +135,14 @@ pub record Stopped (who : Driver) (broken : Type 0) (P : State → List Event �
   pub goes : Goes who broken P c s state lines
   pub written : AppendsPart old new (text lines)
 
--- at want of memory and where the output failed it is the first; nodes that are told of answer only frames of messages
+-- when out of memory and where the output failed it is the first; nodes that are told of answer only frames of messages
 abbrev pub CutOr : Type 0 → Type 0 → Ended → Type 0
 CutOr cut whole ends.NoMemory = cut
 CutOr cut whole ends.Write = cut
 CutOr cut whole (ends.BadFrame fault) = ⊥
 CutOr cut whole _ = whole
 
--- how it went where the drive ends: at want of memory and where the output failed the last step may have been done in part
+-- how it went where the drive ends: when out of memory and where the output failed the last step may have been done in part
 abbrev pub Stops : Driver → Type 0 → (Ended → State → List Event → Type 0) → (Config → State → Type 0) → (Far → Type 0) → Config → ℕ → State → List (List Msg) → Option (List ℕ) → Option (List ℕ) → Ended → Type 0
 Stops who broken E stands tells c first s queues old new ended = CutOr (Stopped who broken (E ended) c s old new) (Went who broken (E ended) stands tells c first s queues old new) ended
 

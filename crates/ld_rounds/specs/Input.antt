@@ -7,13 +7,14 @@ use Rattle.ld_rounds.specs.Lines.{IsOffPayload}
 use Rattle.ld_rounds.specs.declared.payloads.InputFault.{InputFault}
 use Rattle.ld_rounds.specs.declared.payloads.InputFault.TheVariants as faults
 
--- a line that is off: its number, the bytes from it on, and whether it was to spell the messages of a batch
+-- a line with a syntax error: its number, the bytes from it on, and whether it was to spell the messages of a batch
 pub record OffLine : Type 0 where
   pub number : ℕ
   pub bytes : List ℕ
   pub batches : Bool
 
--- the payloads of the lines that are still to come, and behind them the end of the input, or the first line that is off
+-- the payloads of the lines that are still to come, and behind them the end of the input, or the first line with a syntax
+-- error
 pub record Input : Type 0 where
   pub payloads : List (List ℕ)
   pub off : Option OffLine
@@ -28,7 +29,7 @@ pub record GivesNext (old : Input) (new : Option Input) (payload : List ℕ) : T
   pub first : old.payloads ≡ payload ∷ rest
   pub left : new ≡ Some (record { payloads = rest; off = old.off })
 
--- behind all payloads comes a line that is off, at this place
+-- behind all payloads comes a line with a syntax error, at this place
 pub record ComesTo (old : Input) (line place : ℕ) : Type 0 where
   pub rest : List ℕ
   pub batches : Bool

@@ -34,7 +34,8 @@ pub record Begins (bytes line rest : List ℕ) : Type 0 where
   pub one : Lacks 10 line
   pub short : length line ≤ longest
 
--- the line spells no payload, or, where lines spell batches, no messages of one; and this is the place where it is off
+-- the line spells no payload, or, where lines spell batches, no messages of one; and this is the byte offset of its syntax
+-- error
 abbrev pub IsMisspelt : Bool → List ℕ → ℕ → Type 0
 IsMisspelt false line place = IsOff AreBytes hex_text line place
 IsMisspelt true line place = IsOff IsBatch messages_text line place
@@ -46,7 +47,7 @@ pub record IsNoPayload (batches : Bool) (bytes : List ℕ) (place : ℕ) : Type 
   pub begins : Begins bytes line rest
   pub off : IsMisspelt batches line place
 
--- how the first line is off that is to spell a payload, or a batch's messages, and at which place
+-- how the first line has a syntax error that is to spell a payload, or a batch's messages, and at which place
 pub record IsOffPayload (batches : Bool) (bytes : List ℕ) (place : ℕ) : Type 0 where
   pub some : 1 ≤ length bytes
   pub off : IsLong bytes place ⊎ IsCutLine bytes place ⊎ IsNoPayload batches bytes place

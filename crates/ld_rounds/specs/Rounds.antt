@@ -218,7 +218,7 @@ pub record HasFedSome (c : Config) (old : Input) (s : State) (es : List Event) :
   pub left : List (List ℕ)
   pub payloads : old.payloads ≡ taken_of c s es ++ left
 
--- where it is done, and where it comes to a line that is off, all before are taken
+-- where it is done, and where it comes to a line with a syntax error, all before are taken
 abbrev pub FeedsUntil : Config → Option Input → Ended → State → List Event → Type 0
 FeedsUntil c None ended s es = Unit {0}
 FeedsUntil c (Some old) ends.Done s es = (old.payloads ≡ taken_of c s es) × (old.off ≡ None)

@@ -44,7 +44,7 @@ pub record Told (heard : Heard) (end : Option Ended) (before now : List (List Ms
 abbrev pub HasTold : Heard → List (List Msg) → List (List Msg) → Option (List ℕ) → Option (List ℕ) → Type 0
 HasTold heard before now old new = Told heard None before now old new
 
--- at want of memory and where the output failed a part of the lines may be written
+-- when out of memory and where the output failed a part of the lines may be written
 abbrev pub IsTelling : Heard → List (List Msg) → List (List Msg) → Option (List ℕ) → Option (List ℕ) → Ended → Type 0
 IsTelling heard before now old new ends.NoMemory = AppendsPart old new (text heard.lines.items)
 IsTelling heard before now old new ends.Write = AppendsPart old new (text heard.lines.items)

@@ -32,9 +32,9 @@ pub struct Heard {
 }
 
 /// A sequencer or a reader, with its register, that is driven against nodes. Where it can't go on for a cause that no line
-/// says, it keeps the cause and answers as at want of memory.
+/// says, it keeps the cause and answers as when out of memory.
 pub trait Actor {
-    /// It stands for its part of a state of the written machine.
+    /// It represents its part of a state of the written machine.
     ghost stands: { Self → Config → State → Type 0 };
 
     /// Who it is, and what it takes: no call changes that.
@@ -51,7 +51,8 @@ pub trait Actor {
         ensures heard { IsTrue result → hears self.now message.now }
         ensures taken { (c : Config) (s : State) → stands self.now c s → result ≡ (own self.now).takes s message.now };
 
-    /// Takes a message of a node that is for it. It ends where it says so in a line. After want of memory it is of no use.
+    /// Takes a message of a node that is for it. It ends where it says so in a line. After running out of memory it is of
+    /// no use.
     fn hear(&mut self, alloc: Global, message: &Msg) -> Result<Heard, NoMemory>
         requires message { IsMessage message.now }
         requires hears { hears self.old message.now }
@@ -64,7 +65,7 @@ pub trait Actor {
 
     /// What the sender of a message is told of an epoch, by what a look at the register shows: where the message told the
     /// actor to wait for a number of a closed epoch, and this one is closed too, its `Clean`, from the sequencer that closed
-    /// it. One that tells nodes of no log's closed epochs has none. After want of memory it is of no use.
+    /// it. One that tells nodes of no log's closed epochs has none. After running out of memory it is of no use.
     fn reminder(
         &mut self,
         alloc: Global,

@@ -39,7 +39,7 @@ pub trait Appends: Actor {
     ghost settled: { Self → Bool };
 
     /// The sequencer of the name numbers the payload and sends it, or writes why not. It ends the drive where it says so in
-    /// a line. After want of memory it is of no use.
+    /// a line. After running out of memory it is of no use.
     fn append(
         &mut self,
         alloc: Global,
@@ -55,8 +55,8 @@ pub trait Appends: Actor {
         ensures since { Self.since self.old self.new };
 
     /// The sequencer of the name sends again what is still wanted, looks again where no look succeeded at an epoch whose nodes
-    /// have told all that they can, and tries its close again. It ends the drive where it says so in a line. After want of
-    /// memory it is of no use.
+    /// have told all that they can, and tries its close again. It ends the drive where it says so in a line. After running out
+    /// of memory it is of no use.
     fn retry(&mut self, alloc: Global, name: &Name) -> Result<Heard, NoMemory>
         ensures messages { IfOk result (λ heard. AreMessages heard.sends) }
         ensures retried { IfOk result (λ heard. (c : Config) (s : State) → IsInBounds c → IsSound c s → Self.stands self.old c s
@@ -267,8 +267,8 @@ fn append_round<A: Appends, N: Nodes, P: Payloads, O: Sink>(
 /// acknowledged, every epoch before its own is closed, and no message waits. True where it was.
 ///
 /// It ends with `Preempted`, `EpochFull` or `Register` where a line says so, with `BadFrame` where what a node sent begins no
-/// frame, with `BadLine` at the first line that is off, with `Read` where the input failed, with `Write` where the output
-/// failed, and for want of memory.
+/// frame, with `BadLine` at the first line with a syntax error, with `Read` where the input failed, with `Write` where the
+/// output failed, and when out of memory.
 pub fn append<A: Appends, N: Nodes, P: Payloads, O: Sink>(
     alloc: Global,
     set: &NodeSet,
@@ -280,10 +280,10 @@ pub fn append<A: Appends, N: Nodes, P: Payloads, O: Sink>(
     queues: &mut Queues,
     out: &mut O,
 ) -> Result<bool, Ended>
-    // Where the nodes tell what stands there: all that was done are steps of the written machine from any state that the
-    // drive stands for, round by round: it sends again, but not in the first, payloads are appended, and the set's nodes are
-    // visited one after the other. The payloads that the machine took are the first ones that came, in their order; they are
-    // all where it is done, and where it comes to a line that is off. The lines that were written are the sequencer's lines of
+    // Where the nodes tell what stands there: all that was done are steps of the written machine from any state that the drive
+    // represents, round by round: it sends again, but not in the first, payloads are appended, and the set's nodes are visited
+    // one after the other. The payloads that the machine took are the first ones that came, in their order; they are all where
+    // it is done, and where it comes to a line with a syntax error. The lines that were written are the sequencer's lines of
     // those steps. A message to a node is lost only where a call of the nodes failed or a node had ended, and an answer only
     // where the sequencer doesn't take it; it never ends with `BadFrame`.
     ensures held { (c : Config) (first : ℕ) (s : State) (far : Far) → IsInBounds c → AreOfConfig c (members set.now)

@@ -9,7 +9,7 @@ use std::alloc::{AllocError, AllocFailed};
 /// Why a register refuses a sequencer.
 #[derive(Clone, Copy)]
 pub enum Refusal {
-    /// A call of the outside failed.
+    /// A call of the environment failed.
     Failed,
     /// The register's journal would pass its greatest length.
     Full,
@@ -36,7 +36,7 @@ pub enum Ended {
     Register(Refusal),
     /// What a node sent begins no frame.
     BadFrame(WireFault),
-    /// The line of the input, counted from 1, is the first one that is off, and this is the place in it.
+    /// The line of the input, counted from 1, is the first one with a syntax error, and this is the byte offset of it.
     BadLine { line: u64, place: u64 },
     /// The input failed.
     Read,

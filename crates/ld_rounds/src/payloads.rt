@@ -8,7 +8,7 @@ use std::alloc::Global;
 /// Why no payload is given.
 #[derive(Clone, Copy)]
 pub enum InputFault {
-    /// The line, counted from 1, is the first one that is off, and this is the place in it.
+    /// The line, counted from 1, is the first one with a syntax error, and this is the byte offset of it.
     BadLine { line: u64, place: u64 },
     /// A read failed.
     Read,
@@ -27,8 +27,8 @@ pub trait Payloads {
     /// Which one this is, so that one that was lent is known to have come back. Each call keeps it.
     ghost identity: { Self → ℕ };
 
-    /// Takes the next payload; none is at the end of the input. It is refused with `BadLine` where the next line is off, with
-    /// `Read` where a read failed, and for want of memory.
+    /// Takes the next payload; none is at the end of the input. It is refused with `BadLine` where the next line has a syntax
+    /// error, with `Read` where a read failed, and when out of memory.
     fn next(&mut self, alloc: Global) -> Result<Option<Payload>, InputFault>
         ensures gives { Gives (coming self.old) (coming self.new) result }
         ensures later { faults self.old ≤ faults self.new }

@@ -28,8 +28,8 @@ pub trait Reads: Actor {
     /// The one of the name is past its last number.
     ghost finished: { Self → List ℕ → Bool };
 
-    /// The reader of the name asks all nodes for its next number. It ends the drive where it says so in a line. After want of
-    /// memory it is of no use.
+    /// The reader of the name asks all nodes for its next number. It ends the drive where it says so in a line. After running
+    /// out of memory it is of no use.
     fn poll(&mut self, alloc: Global, name: &Name) -> Result<Heard, NoMemory>
         ensures messages { IfOk result (λ heard. AreMessages heard.sends) }
         ensures polled { IfOk result (λ heard. (c : Config) (s : State) → IsInBounds c → IsSound c s → Self.stands self.old c s
@@ -120,7 +120,7 @@ fn read_round<R: Reads, N: Nodes, O: Sink>(
 /// finished. One that is sparing polls only before a round at whose start no message waits for a node of the set: what it
 /// asked at its last answer then still waits for nodes that had been visited before. True where it was finished; its lines
 /// are written as they come. It ends with `BadFrame` where what a node sent begins no frame, with `Write` where the output
-/// failed, and for want of memory.
+/// failed, and when out of memory.
 pub fn read<R: Reads, N: Nodes, O: Sink>(
     alloc: Global,
     set: &NodeSet,
@@ -133,7 +133,7 @@ pub fn read<R: Reads, N: Nodes, O: Sink>(
     out: &mut O,
 ) -> Result<bool, Ended>
     // Where the nodes tell what stands there: all that was done are steps of the written machine from any state that the
-    // drive stands for, round by round: it polls, but one that is sparing just where no message that is new from the first
+    // drive represents, round by round: it polls, but one that is sparing just where no message that is new from the first
     // place on waits for a node of the set, and the set's nodes are visited one after the other. The lines that were written
     // are the reader's lines of those steps. A message to a node is lost only where a call of the nodes failed or a node had
     // ended, and an answer only where the reader doesn't take it. In its visit a node may be ticked, right behind an answer by

@@ -244,7 +244,7 @@ pub fn visit<A: Actor, N: Nodes, O: Sink>(
     out: &mut O,
 ) -> Result<(), Ended>
     // Where the nodes tell what stands there: what was delivered, heard and lost are steps of the written machine from any
-    // state that the drive stands for, and the lines that were written are the actor's lines of those steps. A message to a
+    // state that the drive represents, and the lines that were written are the actor's lines of those steps. A message to a
     // node is lost only where a call of the nodes failed or a node had ended, and an answer only where the actor doesn't
     // take it. Right behind an answer by which it tells its actor to wait the node may be ticked, where the actor tells nodes
     // of a log's closed epochs. Where it goes on nothing waits for the node, and no answer is to be taken.
@@ -293,7 +293,7 @@ pub fn round<A: Actor, N: Nodes, O: Sink>(
     out: &mut O,
 ) -> Result<(), Ended>
     // Where the nodes tell what stands there: what was delivered, heard and lost are steps of the written machine from any
-    // state that the drive stands for, and the lines that were written are the actor's lines of those steps. A message to a
+    // state that the drive represents, and the lines that were written are the actor's lines of those steps. A message to a
     // node is lost only where a call of the nodes failed or a node had ended, and an answer only where the actor doesn't
     // take it. Where it goes on they are visits of the set's nodes, one after the other: each leads to a state in which
     // nothing waits for its node, and no answer is to be taken.

@@ -22,7 +22,7 @@ tampered f hs = rewritten (without_record f) hs
 abbrev pub tampered_run : (List ℕ → ℕ → Line) → Config → List Event → List Happened
 tampered_run f c es = tampered f (history c es)
 
--- what stands for each record
+-- what represents each record
 abbrev pub another_payload : List ℕ → ℕ → Line
 another_payload name n = lines.Record name n (0 ∷ [])
 

@@ -15,7 +15,7 @@ use Rattle.ld_safety.proofs.Lists.{count_share, cond_both, any_in}
 use Rattle.ld_safety.proofs.Plans.{best_of, best_least, ranked, trim_least, top_least, plan_shape, plan_between, content_no_bridge, no_bridge, floor_trim, floor_lng, end_above_floor, end_above_top, content_no_withheld}
 use Rattle.ld_safety.proofs.Protocol.{Basis, plan_of, plan_at, Says, PlansOnce, AppendsOnce, says_once, tells_stored, told_stored, Chosen, Ends, Kept, PlanFacts, whole_in}
 
--- the place of a trim in its epoch covers what the trim covers
+-- the offset of a trim in its epoch covers what the trim covers
 pub trim_covers : (e n t : ℕ) → epoch_of n ≡ e → esn_of n < last_esn → n ≤ t → esn_of n ≤ trim_place e t
 trim_covers e n t q b l = cond_both (nat_lt (epoch_of t) e) 0 _ (λ x. esn_of n ≤ x) (λ a. absurd (let z = ltb-true _ _ a in omega arith))
     (λ a. cond_both (nat_lt e (epoch_of t)) (last_esn - 1) (min (esn_of t) (last_esn - 1)) (λ x. esn_of n ≤ x) (λ c. omega arith) (λ c. let y = ltb-false _ _ a in let z = ltb-false _ _ c in omega arith))

@@ -1,4 +1,4 @@
--- Entries, trims, summaries, last known good places and released numbers wherever a state carries them: at nodes, in messages, in digests and plans, at readers, in the register.
+-- Entries, trims, summaries, last known good offsets and released numbers wherever a state carries them: at nodes, in messages, in digests and plans, at readers, in the register.
 use Rattle.std.proofs.Common.{◌≡◌, ℕ, ◌<◌, ◌≤◌, Bool, true, false, List, Option, Some, None, subst}
 use Rattle.ld_op.specs.Handles.{ballot_of}
 use Rattle.ld_table.specs.Table.{find}
@@ -30,7 +30,7 @@ WholeTo _ _ = Unit {0}
 pub message_whole : (m : Msg) (n round from upto : ℕ) (es : List Entry) → m.to ≡ whos.Node n → m.body ≡ bodies.ReadPage round from upto true es → WholeTo m.to m.body → Whole es
 message_whole m n round from upto es t b h = subst (WholeTo (whos.Node n)) b (subst (λ w. WholeTo w m.body) t h)
 
--- what ballot b says of a number of a log; what is a trim of a log; how an epoch of a log is closed; which epochs were handed out; what a page, clean or not, may show; what may be released; what may be kept or read of a number, beside what a ballot says; what is a last known good place of an epoch
+-- what ballot b says of a number of a log; what is a trim of a log; how an epoch of a log is closed; which epochs were handed out; what a page, clean or not, may show; what may be released; what may be kept or read of a number, beside what a ballot says; what is a last known good offset of an epoch
 module _ (E : ℕ → ℕ → ℕ → What → Type 0) (T : ℕ → ℕ → Type 0) (Y : ℕ → ℕ → Summary → Type 0) (O : ℕ → ℕ → Type 0) (V : ℕ → Bool → Entry → Type 0) (W : ℕ → ℕ → Type 0) (R : ℕ → ℕ → ℕ → What → Type 0) (G : ℕ → ℕ → ℕ → Type 0) where
   abbrev pub EntryOk : ℕ → Entry → Type 0
   EntryOk l e = E l e.ballot e.number e.what

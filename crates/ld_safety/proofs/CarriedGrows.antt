@@ -1,4 +1,4 @@
--- What is carried stays so where entries, trims, summaries and last known good places mean less.
+-- What is carried stays so where entries, trims, summaries and last known good offsets mean less.
 use Rattle.std.proofs.Common.{Bool, ℕ, Option, Some, None}
 use Rattle.ld_msg.specs.declared.msg.Entry.{Entry}
 use Rattle.ld_msg.specs.declared.msg.What.{What}

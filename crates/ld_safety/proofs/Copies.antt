@@ -21,7 +21,7 @@ use Rattle.ld_safety.proofs.Settled.{Reached}
 use Rattle.ld_safety.proofs.Holdings.{HeldAt, KeptBy, LogFine, Taking, entry_stays, cut_off, wider, lost_now, refill_same}
 use Rattle.ld_safety.proofs.Protocol.{StoredBy, TrimmedBy}
 
--- the copy of another ballot counts where the epoch is closed so: its own one up to the last known good place, the closing one above it; and none from the end on
+-- the copy of another ballot counts where the epoch is closed so: its own one up to the last known good offset, the closing one above it; and none from the end on
 abbrev pub Another : Summary → ℕ → ℕ → Type 0
 Another y n b = ((esn_of n ≤ y.lng) × (b ≡ epoch_of n → ⊥)) ⊎ (((y.lng < esn_of n) × (b ≡ y.ballot → ⊥)) ⊎ (y.end ≤ esn_of n))
 

@@ -41,7 +41,7 @@ abbrev pub Before : Recovery → ℕ → Type 0
 Before v e = (e < v.epoch) ⊎ ((e ≡ v.epoch) × NotSeals v.stage)
 
 module _ (c : Config) (hs : List Happened) (sent : List Msg) where
-  -- a last known good place that a page told covers acknowledged appends alone
+  -- a last known good offset that a page told covers acknowledged appends alone
   abbrev pub PagesGood : Register → Type 0
   PagesGood r = (l e b y g : ℕ) → LngPaged sent l e b y g → LngFine c hs sent r l e g
 

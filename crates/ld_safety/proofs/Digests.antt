@@ -50,7 +50,7 @@ pub record TrimPaged (sent : List Msg) (l b y t : ℕ) : Type 0 where
   pub entries : List Entry
   pub page : In (from_node l y b (bodies.DigestPage from upto t lng entries)) sent
 
--- a last known good place came in a page of the epoch
+-- a last known good offset came in a page of the epoch
 pub record LngPaged (sent : List Msg) (l e b y g : ℕ) : Type 0 where
   pub from : ℕ
   pub upto : ℕ
@@ -60,7 +60,7 @@ pub record LngPaged (sent : List Msg) (l e b y g : ℕ) : Type 0 where
   pub epoch : epoch_of from ≡ e
 
 module _ (hs : List Happened) (made : List Made) (sent : List Msg) where
-  -- what one node told; its pages cover what is asked of it above the digest's last known good place
+  -- what one node told; its pages cover what is asked of it above the digest's last known good offset
   pub record ToldSoFar (l e b good : ℕ) (t : Told) : Type 0 where
     pub paged : (f : Entry) → In f t.entries → Paged sent l b t.node f
     pub trimmed : (t.trim ≡ 0) ⊎ TrimPaged sent l b t.node t.trim

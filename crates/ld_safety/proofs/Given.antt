@@ -21,7 +21,7 @@ use Rattle.ld_machine.specs.Calm.{Move}
 abbrev pub AppendedBy : List Happened → ℕ → ℕ → List ℕ → Type 0
 AppendedBy hs l n p = (k : ℕ) × Appends hs l n p k
 
--- a place that an entry may have
+-- an offset that an entry may have
 pub record Place (n : ℕ) (w : What) : Type 0 where
   pub above : 0 < esn_of n
   pub below : (w ≡ Bridge → ⊥) → esn_of n < last_esn
@@ -44,7 +44,7 @@ AnyShown l clean e = Unit {0}
 abbrev pub AnyReleased : ℕ → ℕ → Type 0
 AnyReleased l r = Unit {0}
 
--- a last known good place lies below the last place
+-- a last known good offset lies below the last offset
 abbrev pub SmallGood : ℕ → ℕ → ℕ → Type 0
 SmallGood l e g = g < last_esn
 

@@ -1,4 +1,4 @@
--- Items and appends are sent to nodes of their epoch alone, and items with the last known good place of their plan.
+-- Items and appends are sent to nodes of their epoch alone, and items with the last known good offset of their plan.
 use Rattle.std.proofs.Common.{is_some, ◌≡◌, ◌∙◌, ◌≤◌, ◌⊎◌, ℕ, zero, suc, inl, inr, refl, ap, sym, subst, cond, Bool, true, false, not, ◌<◌, if◌then◌else◌, take, drop, List, [], ◌∷◌, ◌++◌, Option, Some, None, length, nat_lt, ◌==◌, ◌+◌, arith}
 use Rattle.std.proofs.lemmas.Bool.{eqb-true, ltb-true}
 use Rattle.ld_table.specs.Words.{is_in, without, any_of}
@@ -60,7 +60,7 @@ item_in s lost loss wave n settled y = cond_both (is_wide s lost loss) (without 
     (λ t. cond_both (nat_lt (length settled) s.r) (choice s lost n wave) [] (λ zs. In y zs → In y (nodes_of s)) (λ u i. choice_in s lost n wave y i) (λ u i. absurd i))
 
 -- ---- what is sent ----
--- a store goes where it may, with a last known good place as it may, and so does an ask for a digest
+-- a store goes where it may, with a last known good offset as it may, and so does an ask for a digest
 abbrev pub MayGo : (ℕ → ℕ → ℕ → Type 0) → (ℕ → ℕ → Type 0) → ℕ → Body → Type 0
 MayGo P A y (bodies.Store n lng w) = P y n lng
 MayGo P A y (bodies.DigestAsk n) = A y n
@@ -158,7 +158,7 @@ module _ (P : ℕ → ℕ → ℕ → Type 0) (A : ℕ → ℕ → Type 0) where
     failed = λ n g. record { cleans = h.cleans; asks = h.asks; stores = h.stores };
   }
 
--- the last known good place in a store of a later ballot is its plan's
+-- the last known good offset in a store of a later ballot is its plan's
 abbrev pub StoreLng : List Made → ℕ → ℕ → ℕ → ℕ → Type 0
 StoreLng made l b n g = (b ≡ epoch_of n) ⊎ ((d : Basis) × In (plan_of l (epoch_of n) b d) made × (g ≡ digest_lng d.digest))
 
@@ -280,7 +280,7 @@ store_is : (a lng b lngs : ℕ) (x w : What) → bodies.Store a lng x ≡ bodies
 store_is a lng b lngs x w h = cc
 
 -- ---- every event ----
--- stores of sequencers are of nodes of the number's epoch, and those of later ballots have the last known good place of their plan
+-- stores of sequencers are of nodes of the number's epoch, and those of later ballots have the last known good offset of their plan
 abbrev pub Goes : Config → Register → List Joined → List Made → ℕ → ℕ → ℕ → ℕ → ℕ → Type 0
 Goes c r js made l b y n lng = Reached r l (epoch_of n) × InEpoch c r js l (epoch_of n) y × StoreLng made l b n lng
 

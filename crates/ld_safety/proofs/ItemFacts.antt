@@ -77,7 +77,7 @@ module _ (c : Config) (hs : List Happened) (made : List Made) (sent : List Msg) 
     no_hole l n h (inl a) = closed_no_hole l n h.summary a h.says
     no_hole l n h (inr p) = let y : p.1.summary ≡ h.summary = Some_inj (sym p.1.closed.found_so ∙ h.closed.found_so) in hole_or_record l n h.summary p.0 h.closed h.says h.hole (subst (λ (v : Summary). ClosedSays hs made l n v (Rec p.0)) y p.1.says)
 
-    -- nothing of an epoch's places stands above the bridge of a lesser one
+    -- nothing of an epoch's offsets stands above the bridge of a lesser one
     in_epoch : (n e : ℕ) → 0 < esn_of n → n ≤ numbered (e + 1) 0 → numbered e 0 ≤ n → epoch_of n ≡ e
     in_epoch n e p a b = omega arith
 

@@ -39,7 +39,7 @@ slice_get_left x [] ys i h = absurd cc
 slice_get_left x (y ∷ xs) ys zero h = h
 slice_get_left x (y ∷ xs) ys (suc i) h = slice_get_left x xs ys i h
 
--- a place of a list with one more at its end
+-- an offset of a list with one more at its end
 pub slice_get_end : {X : Type 0} (x y : X) (xs : List X) (i : ℕ) → slice_get (xs ++ y ∷ []) i ≡ Some x → (slice_get xs i ≡ Some x) ⊎ ((i ≡ length xs) × (x ≡ y))
 slice_get_end x y [] zero h = inr (refl, cc)
 slice_get_end x y [] (suc i) h = absurd cc

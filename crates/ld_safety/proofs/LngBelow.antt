@@ -1,4 +1,4 @@
--- Along loss plans the last known good place doesn't rise.
+-- Along loss plans the last known good offset doesn't rise.
 use Rattle.std.proofs.Common.{◌≡◌, ◌≤◌, ◌<◌, ℕ, inl, inr, sym, subst, true, List, arith}
 use Rattle.std.proofs.lemmas.Bool.{cases_Bool}
 use Rattle.ld_table.specs.Words.{is_in}

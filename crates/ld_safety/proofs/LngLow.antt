@@ -1,4 +1,4 @@
--- The last known good place that a node was told of an epoch: after a page of it to a ballot it stays at the page's or below, or at that of a plan of that ballot or a greater one or below, while the epoch is served: op by op.
+-- The last known good offset that a node was told of an epoch: after a page of it to a ballot it stays at the page's or below, or at that of a plan of that ballot or a greater one or below, while the epoch is served: op by op.
 use Rattle.std.proofs.Common.{◌≡◌, ◌⊎◌, ◌≤◌, ◌<◌, ℕ, inl, inr, refl, ap, sym, subst, Bool, true, false, cond, nat_lt, eqb, List, [], ◌∷◌, Option, Some, None, arith}
 use Rattle.std.specs.Option.{unwrap_or}
 use Rattle.std.specs.Ordering.{nat_cmp}
@@ -62,7 +62,7 @@ format_lng (d ∷ ds) l e = there_or (is_at (nat_cmp l) d.0) (find l (lost_logs 
 
 -- ---- after a page to a ballot ----
 
--- a plan of the epoch, of at least the ballot, whose last known good place is at least this one
+-- a plan of the epoch, of at least the ballot, whose last known good offset is at least this one
 abbrev pub PlanLow : List Made → ℕ → ℕ → ℕ → ℕ → Type 0
 PlanLow made l e b g = (h : ℕ) × (d : Basis) × In (plan_of l e h d) made × (b ≤ h) × (g ≤ digest_lng d.digest)
 

@@ -58,7 +58,7 @@ use Rattle.ld_safety.proofs.Styles as styles
 
 -- ---- numbers ----
 
--- epoch 0 ends before its place 1
+-- epoch 0 ends before its offset 1
 no_place : (e s end t : ℕ) → e ≡ 0 → end ≡ 1 → t < s → s < numbered e end → ⊥
 no_place e s end t a b c d = omega arith
 

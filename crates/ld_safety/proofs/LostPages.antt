@@ -36,7 +36,7 @@ pub record CleanKept (c : Config) (w : World) : Type 0 where
   -- what swaps left of sets follows what was fixed
   pub follow : SetsFollow w.joined w.state.register
   pub each : EachClosed w.state.register
-  -- a closed epoch was handed out, and ends at a place
+  -- a closed epoch was handed out, and ends at an offset
   pub bounded : (l e : ℕ) (z : Summary) → Closed w l e z → 0 < e → (e ≤ (epochs_of w.state.register l).epoch) × (z.end ≤ last_esn)
   -- a node's summaries are the register's, and it is trimmed as they say
   pub summaries : (y l e : ℕ) (p : Plain) (z : Summary) → MayHold (node_at w.state y) p → 0 < e → find e (log_of p l).summaries ≡ Some z → Closed w l e z × (z.trim ≤ (log_of p l).trim)
@@ -56,7 +56,7 @@ pub record CleanKept (c : Config) (w : World) : Type 0 where
 pub home_is : (s e : ℕ) → e * 2 ^ 32 < s → s < e * 2 ^ 32 + 2 ^ 32 → (home_epoch s ≡ e) × (epoch_of s ≡ e)
 home_is s e a b = (cond_both (is_epoch_end s) (epoch_of s - 1) (epoch_of s) (λ h. h ≡ e) (λ t. absurd (let p = and_parts (esn_of s == 0) (nat_lt 0 (epoch_of s)) t in let q = eqb-true (esn_of s) 0 p.0 in omega arith)) (λ t. omega arith), omega arith)
 
--- a number below an end of its epoch stands at a place of it
+-- a number below an end of its epoch stands at an offset of it
 pub place_in : (s k : ℕ) → 0 < home_epoch s → s < numbered (home_epoch s) k → k ≤ last_esn → (home_epoch s ≡ epoch_of s) × (0 < esn_of s) × (esn_of s < k)
 place_in s k = by_end (is_epoch_end s) refl where
   by_end : (b : Bool) → is_epoch_end s ≡ b → 0 < (if b then epoch_of s - 1 else epoch_of s) → s < numbered (if b then epoch_of s - 1 else epoch_of s) k → k ≤ last_esn → ((if b then epoch_of s - 1 else epoch_of s) ≡ epoch_of s) × (0 < esn_of s) × (esn_of s < k)
@@ -68,7 +68,7 @@ place_in s k = by_end (is_epoch_end s) refl where
       | inr u ↦ let v = eqb-false (esn_of s) 0 u in elim (cases_order (esn_of s) 0) [ inl q ↦ absurd (v q) | inr (inl q) ↦ absurd (omega arith) | inr (inr q) ↦ q ]
     ]
 
--- a number whose place is below the last one
+-- a number whose offset is below the last one
 pub home_place : (f k : ℕ) → home_esn f < k → k ≤ last_esn → (0 < home_epoch f → home_epoch f * 2 ^ 32 < f) × (home_epoch f * 2 ^ 32 ≤ f) × (f < home_epoch f * 2 ^ 32 + k)
 home_place f k = by_end (is_epoch_end f) refl where
   by_end : (b : Bool) → is_epoch_end f ≡ b → (if b then 2 ^ 32 else esn_of f) < k → k ≤ last_esn → (0 < (if b then epoch_of f - 1 else epoch_of f) → (if b then epoch_of f - 1 else epoch_of f) * 2 ^ 32 < f) × ((if b then epoch_of f - 1 else epoch_of f) * 2 ^ 32 ≤ f) × (f < (if b then epoch_of f - 1 else epoch_of f) * 2 ^ 32 + k)

@@ -277,7 +277,7 @@ content_no_withheld b (Some e) h = by_what b e.what h where
   by_what false Plug g = cc
   by_what false Withheld g = cc
 
--- the items of a plan are those of its places
+-- the items of a plan are those of its offsets
 record_items_in : (e : ℕ) (b : Bool) (d : List Told) (ns : List ℕ) (i : Item) → In i (record_items e b d ns) → (n : ℕ) × In n ns × (i.number ≡ numbered e n) × (i.what ≡ content b (best (numbered e n) d))
 record_items_in e b d [] i h = absurd h
 record_items_in e b d (n ∷ ns) i (inl q) = (n, inl refl, ap (λ (x : Item). x.number) q, ap (λ (x : Item). x.what) q)
@@ -298,7 +298,7 @@ plan_items e b d i h = elim (In-append i _ (record { number = numbered e (plan_e
   | inr a ↦ let q = only i _ a in record { place = plan_end e d; number = ap (λ (x : Item). x.number) q; item = plan_bridge e b d ∙ ap Some (sym (ap (λ (x : Item). x.what) q)); above = let z = end_above_floor e d in omega arith; below = omega arith }
 ]
 
--- each place above the floor up to the end has its item, the end the bridge
+-- each offset above the floor up to the end has its item, the end the bridge
 record_items_have : (e : ℕ) (b : Bool) (d : List Told) (ns : List ℕ) (n : ℕ) → In n ns → In (record { number = numbered e n; what = content b (best (numbered e n) d) }) (record_items e b d ns)
 record_items_have e b d [] n i = absurd i
 record_items_have e b d (m ∷ ns) n (inl q) = inl (ap (λ k. record { number = numbered e k; what = content b (best (numbered e k) d) }) q)

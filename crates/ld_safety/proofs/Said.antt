@@ -1,4 +1,4 @@
--- Each entry anywhere says what its ballot says, or was known good; trims, summaries, pages, released numbers and last known good places are fine.
+-- Each entry anywhere says what its ballot says, or was known good; trims, summaries, pages, released numbers and last known good offsets are fine.
 use Rattle.std.proofs.Common.{◌≡◌, ◌∙◌, ◌≤◌, ◌<◌, ℕ, ◌+◌, inl, inr, refl, ap, sym, subst, true, ◌&&◌, nat_lt, nat_le, List, [], ◌∷◌, ◌++◌, Some, arith, Bool, false, ◌-◌, ◌⊎◌, ◌==◌, eqb-true}
 use Rattle.ld_safety.proofs.NodeSteps.{missing_clean}
 use Rattle.ld_op.specs.Answers.{lets_read}
@@ -65,7 +65,7 @@ abbrev pub AllSaid : Config → List Happened → List Made → Register → Sta
 AllSaid c hs made r s = Carries c s (Takes (events.Flow 0)) (Said hs made r) (TrimFine c hs s.network.sent r) (CloseFine c hs made s.network.sent r) (Reached r) (ShowFine c hs made s.network.sent r) (ReleaseFine c hs s.network.sent r) (SaidHere hs made r) (LngFine c hs s.network.sent r) s
 
 -- ---- what grows ----
--- a last known good place lies below the last place, where no append has its number
+-- a last known good offset lies below the last offset, where no append has its number
 pub good_low : (c : Config) (hs : List Happened) (sent : List Msg) (r : Register) (l e g : ℕ) → LngFine c hs sent r l e g → g < last_esn
 good_low c hs sent r l e g h = elim (cases_order g last_esn) [
   | inl q ↦ absurd (last (omega arith))

@@ -42,7 +42,7 @@ pub record Acknowledged (c : Config) (hs : List Happened) (sent : List Msg) (r :
 abbrev pub TrimFine : Config → List Happened → List Msg → Register → ℕ → ℕ → Type 0
 TrimFine c hs sent r l t = (n : ℕ) → n ≤ t → 0 < esn_of n → Open r l (epoch_of n) → Acknowledged c hs sent r l n
 
--- a last known good place of an epoch covers acknowledged appends alone
+-- a last known good offset of an epoch covers acknowledged appends alone
 abbrev pub LngFine : Config → List Happened → List Msg → Register → ℕ → ℕ → ℕ → Type 0
 LngFine c hs sent r l e g = (n : ℕ) → epoch_of n ≡ e → 0 < esn_of n → esn_of n ≤ g → Acknowledged c hs sent r l n
 
@@ -51,7 +51,7 @@ pub record ReleaseFine (c : Config) (hs : List Happened) (sent : List Msg) (r : 
   pub acked : (n : ℕ) → epoch_of n ≡ epoch_of k → 0 < esn_of n → n ≤ k → Acknowledged c hs sent r l n
   pub closed : epoch_of k ≤ lce_of r l + 1
 
--- a number that stands for a ballot, whatever comes
+-- a number that represents a ballot, whatever comes
 abbrev pub Fixed : Config → List Happened → List Msg → Register → ℕ → ℕ → ℕ → Type 0
 Fixed c hs sent r l n b = Acknowledged c hs sent r l n ⊎ Chosen (fixed_of c r l (epoch_of n)) sent l n b
 
@@ -93,7 +93,7 @@ pub record ClosedBy (c : Config) (hs : List Happened) (made : List Made) (sent :
   pub low : e ≤ lce_of r l
   pub plan : Summarized c hs made sent r l e y
 
--- epoch 0 is closed before its place 1, by no plan
+-- epoch 0 is closed before its offset 1, by no plan
 abbrev pub OfZero : ℕ → Summary → Type 0
 OfZero e y = (e ≡ 0) × (y.end ≡ 1) × (y.loss ≡ false)
 

@@ -28,7 +28,7 @@ use Rattle.ld_safety.proofs.LossBook.{FoundBelow}
 use Rattle.ld_safety.proofs.Cleans.{LogClean}
 use Rattle.ld_safety.proofs.Carried as carried
 
--- a place above a trim
+-- an offset above a trim
 pub above_trim : (e n t : ℕ) → epoch_of n ≡ e → 0 < esn_of n → t < n → trim_place e t < esn_of n
 above_trim e n t q p l = cond_both (nat_lt (epoch_of t) e) 0 _ (λ x. x < esn_of n) (λ a. omega arith)
     (λ a. cond_both (nat_lt e (epoch_of t)) (last_esn - 1) (min (esn_of t) (last_esn - 1)) (λ x. x < esn_of n) (λ b. absurd (let z = ltb-true _ _ b in omega arith)) (λ b. let y = ltb-false _ _ a in let z = ltb-false _ _ b in omega arith))

@@ -31,6 +31,6 @@ pub record ClosedShort (c : Config) (w : World) (l e : ℕ) (s : Summary) : Type
 abbrev pub FullOrShort : Config → World → Type 0
 FullOrShort c w = (l e : ℕ) (s : Summary) → Closed w l e s → ClosedFully c w l e s ⊎ ClosedShort c w l e s
 
--- the closing plan has an item at each place up to its end that is above its last known good place, where the number is above its trim
+-- the closing plan has an item at each offset up to its end that is above its last known good offset, where the number is above its trim
 abbrev pub ClosesSay : World → Type 0
 ClosesSay w = (l e k : ℕ) (s : Summary) → Closed w l e s → s.trim < numbered e k → s.lng < k → k ≤ s.end → (x : What) × (item w l (numbered e k) s.ballot ≡ Some x)

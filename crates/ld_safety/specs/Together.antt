@@ -16,7 +16,7 @@ LostInLines hs w = (y l e : ℕ) → may_be_lost l e (node_at w.state y) ≡ tru
 
 -- what holds of a state beside the invariant
 pub record Beside (c : Config) (hs : List Happened) (w : World) : Type 0 where
-  -- an epoch is closed fully or short, and its closing plan has an item at each place that it has to
+  -- an epoch is closed fully or short, and its closing plan has an item at each offset that it has to
   pub closes : FullOrShort c w
   pub closes_say : ClosesSay w
   pub lost_in_lines : LostInLines hs w

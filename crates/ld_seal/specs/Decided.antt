@@ -50,7 +50,7 @@ digest_decided p m = told p.generation (digest_in (log_of p m.log) (ballot_of m.
 
 -- ---- a store on an index, whose payloads are to be read ----
 
--- left to what stands at a place
+-- left to what stands at an offset
 abbrev pub is_compare : Decision → Bool
 is_compare (decisions.Lost generation end) = false
 is_compare (decisions.Clean y) = false
@@ -73,7 +73,7 @@ abbrev pub payload_of : Body → List ℕ
 payload_of (bodies.Store number lng what) = payload_in what
 payload_of _ = []
 
--- whether this payload stands at the place, where f is what stands for each byte
+-- whether this payload stands at the offset, where f is what represents each byte
 abbrev pub stands_there : (ℕ → ℕ) → List ℕ → Place → Bool
 stands_there f p place = same (map f (numbers_from place.at place.len)) p
 
@@ -83,7 +83,7 @@ found_same f p sames.Same = true
 found_same f p sames.Other = false
 found_same f p (sames.Compare place) = stands_there f p place
 
--- the decision once what stands at its place is read
+-- the decision once what stands at its offset is read
 abbrev pub compared : (ℕ → ℕ) → List ℕ → Decision → Decision
 compared f p (decisions.Lost generation end) = decisions.Lost generation end
 compared f p (decisions.Clean y) = decisions.Clean y

@@ -1,4 +1,4 @@
--- A journal of one segment, as it was before there were others: it stands for the plain state that its records add up to.
+-- A journal of one segment, as it was before there were others: it represents the plain state that its records add up to.
 use Rattle.std.proofs.Common.{◌≡◌, ⊎_elim, refl, ℕ, ◌+◌, ◌≤◌, max, nat_cmp, List, [], ◌∷◌, ◌++◌, length, drop, Option, None, Some, Bool, true, false, cond, sym, ◌∙◌, ap, subst, arith, append_assoc, append-nil}
 use Rattle.std.proofs.lemmas.List.{drop-drop, drop_at}
 use Rattle.std.specs.Option.{unwrap_or}

@@ -26,7 +26,7 @@ use Rattle.ld_segment.proofs.Standing.{Standing, byte_outside, index_same}
 use Rattle.ld_segment.proofs.OneRead.{one_read}
 use Rattle.ld_segment.proofs.More.{row_at, row_bodies, more, HasLimit, row_journal, gate_is, row_inside, body_there, without, with_more}
 
--- what a write left: the bytes lie as this layout says, with the journal of this version, and stand for this plain state
+-- what a write left: the bytes lie as this layout says, with the journal of this version, and represent this plain state
 pub record LeftAs (version : Version) (p : Plain) (y : Layout) (z : Slots) (c : List ℕ) : Type 0 where
   pub lies : LiesAs version y z c
   pub plain : read_plain c y.index ≡ p

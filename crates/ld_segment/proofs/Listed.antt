@@ -159,7 +159,7 @@ none_lost (d ∷ ds) l g found = by (is_at (nat_cmp l) d.0) found (λ later. non
     by true is later = (let same : lost_log d.1 ≡ g = cc is in subst IsListedLog same (lost_listed d.1))
     by false is later = later is
 
--- an op whose body stands at a place keeps it
+-- an op whose body stands at an offset keeps it
 apply_listed : (p : Plain) (at : ℕ) (o : Op) → IsOp o → IsListed p → IsListed (apply p (placed at o))
 unfolding apply
 apply_listed p at (ops.Format generation epochs) is listed = none_lost epochs

@@ -1,4 +1,4 @@
--- The calls of a mark: whatever they leave stands for the plain state as it was, and all of them make the journal one of the second version.
+-- The calls of a mark: whatever they leave represents the plain state as it was, and all of them make the journal one of the second version.
 use Rattle.std.proofs.Common.{◌≡◌, ◌⊎◌, inl, inr, ⊎_elim, refl, ℕ, ◌+◌, ◌≤◌, ◌<◌, ◌^◌, ◌||◌, nat_le, nat_lt, List, [], ◌∷◌, length, Option, None, Some, is_none, Bool, true, false, cond, if◌then◌else◌, sym, ◌∙◌, ap, subst, arith}
 use Rattle.std.proofs.lemmas.Bool.{or_parts, leb-false, ltb-false}
 use Rattle.ld_msg.specs.Register.{journal_limit}

@@ -1,4 +1,4 @@
--- Bytes lie in one way at most, so they stand for one plain state at most.
+-- Bytes lie in one way at most, so they represent one plain state at most.
 use Rattle.std.proofs.Common.{◌≡◌, ℕ, List, sym, ◌∙◌, ap}
 use Rattle.ld_op.specs.Plain.{Plain}
 use Rattle.ld_op.specs.Cells.{read_plain}

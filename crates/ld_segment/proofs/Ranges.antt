@@ -23,7 +23,7 @@ same_behind to at old new same past =
     let step : to + (at - to) ≡ at = omega arith in
     ap (λ (k : ℕ). drop k new) (sym step) ∙ sym (drop-drop (at - to) to new) ∙ ap (λ (l : List ℕ). drop (at - to) l) same ∙ drop-drop (at - to) to old ∙ ap (λ (k : ℕ). drop k old) step
 
--- so many bytes from a place on that lie before the range or behind it
+-- so many bytes from an offset on that lie before the range or behind it
 pub stays_at : (from to at n : ℕ) (old new : List ℕ) → StaysOutside from to old new → (at + n ≤ from) ⊎ (to ≤ at) → IsSameAt at n old new
 stays_at from to at n old new stays apart =
     ⊎_elim (λ within. same_before from at n old new stays.before within) (λ past. ap (λ (l : List ℕ). take n l) (same_behind to at old new stays.after past)) apart
@@ -31,7 +31,7 @@ stays_at from to at n old new stays apart =
 pub stands_on : (from to at : ℕ) (piece old new : List ℕ) → StaysOutside from to old new → (at + length piece ≤ from) ⊎ (to ≤ at) → StandsAt at piece old → StandsAt at piece new
 stands_on from to at piece old new stays apart stands = stays_at from to at (length piece) old new stays apart ∙ stands
 
--- a place past the end has no bytes before it but those that are there
+-- an offset past the end has no bytes before it but those that are there
 pub torn_far : (at n : ℕ) (old new : List ℕ) → Torn at n old new → StaysOutside (min at (length old)) (at + n) old new
 torn_far at n old new torn = record { before = torn.before; after = torn.after; no_shorter = torn.no_shorter }
 
@@ -69,7 +69,7 @@ stands_written at piece old =
     ∙ ap (λ (l : List ℕ). take (length piece) l) (drop_at front (piece ++ behind) at long)
     ∙ take_at piece behind (length piece) refl
 
--- the one byte at a place
+-- the one byte at an offset
 pub byte_at : (at : ℕ) (bytes : List ℕ) → at < length bytes → StandsAt at (get_or bytes at 0 ∷ []) bytes
 byte_at at bytes inside = ap (λ (l : List ℕ). take 1 l) (drop-cons bytes at 0 inside)
 

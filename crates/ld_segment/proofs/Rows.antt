@@ -1,4 +1,4 @@
--- Rows of records at places of a disk: what writes elsewhere leave of them, and what a record more does.
+-- Rows of records at offsets of a disk: what writes elsewhere leave of them, and what a record more does.
 use Rattle.std.proofs.Common.{◌≡◌, ◌≢◌, ◌⊎◌, min, inl, inr, ⊎_elim, ℕ, ◌+◌, ◌≤◌, ◌<◌, ◌^◌, List, [], ◌∷◌, ◌++◌, length, get_or, take, drop, sym, ◌∙◌, ap, subst, arith, length-append, append_assoc, take-append-drop}
 use Rattle.std.proofs.lemmas.List.{take_at, drop_at, length-take-le}
 use Rattle.ld_disk.specs.Images.{overwrite, Torn}

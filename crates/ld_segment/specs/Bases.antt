@@ -13,7 +13,7 @@ use Rattle.ld_op.specs.Indexed.{first_place}
 use Rattle.ld_node_bounds.specs.States.{last_carried, IsPlain}
 use Rattle.ld_layout.specs.Layout.{base_length}
 
--- summaries and last known good places rise, these stand under epochs, and each payload's bytes stand side by side
+-- summaries and last known good offsets rise, these stand under epochs, and each payload's bytes stand side by side
 pub record IsListedLog (g : Log) : Type 0 where
   pub summaries : Ordered g.summaries
   pub lngs : Ordered g.lngs
@@ -23,7 +23,7 @@ pub record IsListedLog (g : Log) : Type 0 where
 abbrev pub IsListed : Plain → Type 0
 IsListed p = (l : ℕ) (g : Log) → find l p.logs ≡ Some g → IsListedLog g
 
--- an index that a Base can carry, as far as its places and counts fit their fields; ops keep this
+-- an index that a Base can carry, as far as its offsets and counts fit their fields; ops keep this
 pub record IsIndex (p : Plain) : Type 0 where
   pub ordered : IsOrdered p
   pub well : IsPlain last_carried p

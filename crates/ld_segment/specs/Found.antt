@@ -25,6 +25,6 @@ pub record IsFound (head : ℕ) (c : Found) (bytes : List ℕ) : Type 0 where
 abbrev pub IsNoneTold : ℕ → List ℕ → Type 0
 IsNoneTold head bytes = (z : Slots) (number place : ℕ) → ArePlacedAt head z → number < 2 ^ 64 → Tells z.this z.other number place bytes → ⊥
 
--- or the disk ends within one of them; and the place of what isn't there
+-- or the disk ends within one of them; and the offset of what isn't there
 abbrev pub IsNoneThere : ℕ → ℕ → List ℕ → Type 0
 IsNoneThere head place bytes = ((place ≡ head) × (length bytes < head + slot_length)) ⊎ (((place ≡ head + slot_length) × (length bytes < head + slot_length + slot_length)) ⊎ ((place ≡ head) × IsNoneTold head bytes))

@@ -14,13 +14,13 @@ use Rattle.ld_segment.specs.Found.{IsFound, IsNoneThere}
 use Rattle.ld_segment.specs.declared.found.Found.{Found}
 use Rattle.ld_segment.specs.declared.later.Later.{Later}
 
--- the record of this body stands at a place, and a byte behind it
+-- the record of this body stands at an offset, and a byte behind it
 pub record IsRecordAt (at : ℕ) (body bytes : List ℕ) : Type 0 where
   pub there : StandsAt at (framed body) bytes
   pub behind : at + 5 + length body < length bytes
   pub fits : length body < 2 ^ 32
 
--- a Base's record stands at a place, and a version may stand behind it where the first segment is of that one
+-- a Base's record stands at an offset, and a version may stand behind it where the first segment is of that one
 pub record IsBaseAt (opening : Version) (at : ℕ) (b : Base) (version : Version) (bytes : List ℕ) : Type 0 where
   pub body : List ℕ
   pub there : IsRecordAt at body bytes

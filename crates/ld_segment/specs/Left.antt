@@ -38,7 +38,7 @@ pub record IsRecordLeft (at : ℕ) (body old new : List ℕ) : Type 0 where
 
 -- ---- a later switch ----
 
--- the place of the new segment's Base and its record with an ending gate; the place of the slot that doesn't count, what is written over its gate (0 where it is open, nothing where it is shut), and what the slot then says behind it
+-- the offset of the new segment's Base and its record with an ending gate; the offset of the slot that doesn't count, what is written over its gate (0 where it is open, nothing where it is shut), and what the slot then says behind it
 pub record Switching : Type 0 where
   pub base_at : ℕ
   pub base : List ℕ
@@ -68,7 +68,7 @@ switch_calls w = both_calls w.base_at w.base w.slot_at w.shut ++ (safe_calls (w.
 
 -- ---- the first switch ----
 
--- the place behind the last record of the first segment, and what stands behind the head: both slots and the Base's record with an ending gate
+-- the offset behind the last record of the first segment, and what stands behind the head: both slots and the Base's record with an ending gate
 pub record FirstSwitch : Type 0 where
   pub gate_at : ℕ
   pub slots_at : ℕ

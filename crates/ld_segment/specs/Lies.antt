@@ -1,4 +1,4 @@
--- How the bytes of a disk lie: segments of a journal, and what they stand for.
+-- How the bytes of a disk lie: segments of a journal, and what they represent.
 use Rattle.std.specs.Prelude.{◌≡◌, ◌⊎◌, ◌<◌, ◌≤◌, ◌+◌, ◌^◌, ℕ, List, [], ◌∷◌, ◌++◌, length, drop, Option, Some, None, Bool, true, false, is_some, is_none, ◌&&◌, ◌||◌, not, ◌==◌, nat_le, nat_lt, if◌then◌else◌}
 use Rattle.ld_disk.specs.Images.{overwrite}
 use Rattle.ld_disk.specs.Plain.{Call}
@@ -26,7 +26,7 @@ use Rattle.ld_segment.specs.Ops.{bodies_of, place_behind, op_count, indexed, Are
 
 -- ---- the slots ----
 
--- the place of the slot that counts, that of the other, and whether the other's gate is open
+-- the offset of the slot that counts, that of the other, and whether the other's gate is open
 pub record Slots : Type 0 where
   pub this : ℕ
   pub other : ℕ
@@ -107,7 +107,7 @@ pub record LiesAs (version : Version) (y : Layout) (z : Slots) (bytes : List ℕ
   pub end_is : y.end ≡ place_behind records
   pub index_is : IsIndexed first version y z y.later records bytes
 
--- numbers and places of a later segment fit their fields; the first segment's area is what lies before the head
+-- numbers and offsets of a later segment fit their fields; the first segment's area is what lies before the head
 pub record IsBounded (end : ℕ) (g : Segment) : Type 0 where
   pub number : g.number < 2 ^ 64
   pub limit : g.limit ≤ journal_limit
@@ -125,7 +125,7 @@ pub record IsSound (y : Layout) : Type 0 where
   pub index : IsIndex y.index
   pub bounded : IfBounded y.end y.later
 
--- the bytes stand for this plain state
+-- the bytes represent this plain state
 pub record StandsFor (p : Plain) (bytes : List ℕ) : Type 0 where
   pub version : Version
   pub layout : Layout

@@ -38,13 +38,13 @@ applied_all p (v ∷ vs) = applied_all (applied p v) vs
 abbrev pub state_after : List Record → Plain
 state_after vs = applied_all unformatted vs
 
--- a record whose body stands at a place, with the places of its payloads' bytes
+-- a record whose body stands at an offset, with the places of its payloads' bytes
 abbrev pub placed_record : ℕ → Record → Record
 placed_record at (Now o) = Now (placed at o)
 placed_record at (Before o) = Before (placed at o)
 placed_record at Mark = Mark
 
--- the index once these records stand behind the gate at a place; a body begins five bytes behind its gate
+-- the index once these records stand behind the gate at an offset; a body begins five bytes behind its gate
 abbrev pub indexed : ℕ → Plain → List Record → Plain
 indexed gate p [] = p
 indexed gate p (v ∷ vs) = indexed (gate + record_length (body_length v)) (applied p (placed_record (gate + 5) v)) vs

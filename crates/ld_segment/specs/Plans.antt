@@ -61,7 +61,7 @@ count_before (Later w) = 7
 abbrev pub planned_count : Planned → ℕ
 planned_count p = count_before p.before + 4
 
--- the place behind all that they write
+-- the offset behind all that they write
 abbrev pub end_before : Before → ℕ
 end_before Stays = 0
 end_before (First w) = max (w.slots_at + length w.slots) (w.gate_at + length w.head + 6)

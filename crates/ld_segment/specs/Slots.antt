@@ -7,11 +7,11 @@ use Rattle.ld_segment.specs.Left.{Switching}
 
 -- ---- their bytes ----
 
--- what stands behind a slot's gate: the number of the switch that wrote it, and the place of that switch's segment
+-- what stands behind a slot's gate: the number of the switch that wrote it, and the offset of that switch's segment
 abbrev pub says_bytes : ℕ → ℕ → List ℕ
 says_bytes number place = big_bytes 8 number ++ big_bytes 8 place
 
--- the body of the head, which holds the place of the slots
+-- the body of the head, which holds the offset of the slots
 abbrev pub head_bytes : ℕ → List ℕ
 head_bytes place = big_bytes 1 8 ++ big_bytes 8 place
 
@@ -35,7 +35,7 @@ pub record IsSlot (at gate number place : ℕ) (bytes : List ℕ) : Type 0 where
   pub gate_there : StandsAt at (gate ∷ []) bytes
   pub says_there : StandsAt (at + 1) (says_bytes number place) bytes
 
--- these bytes have this slot at a place
+-- these bytes have this slot at an offset
 pub record IsSlotAt (at : ℕ) (s : Slot) (bytes : List ℕ) : Type 0 where
   pub gate : ℕ
   pub is : IsSlot at gate s.number s.place bytes
@@ -60,7 +60,7 @@ pub record Tells (this other number place : ℕ) (bytes : List ℕ) : Type 0 whe
   pub slot : IsSlot this 1 number place bytes
   pub rest : IsShut other bytes ⊎ IsLesser other number bytes
 
--- of two slots, in either order, the first is the one that counts, with this number and place
+-- of two slots, in either order, the first is the one that counts, with this number and offset
 pub record IsTold (this other : Slot) (number place : ℕ) : Type 0 where
   pub first : current this other ≡ Some this
   pub second : current other this ≡ Some this
@@ -81,7 +81,7 @@ pub record IsNextSwitch (this other number : ℕ) (next place : ℕ) (w : Switch
   pub inside : (this + slot_length ≤ length bytes) × (other + slot_length ≤ length bytes)
   pub base_apart : (this + slot_length ≤ w.base_at) × (other + slot_length ≤ w.base_at)
 
--- so many bytes from a place on, which are there, lie outside all that a later switch writes
+-- so many bytes from an offset on, which are there, lie outside all that a later switch writes
 pub record IsElsewhere (w : Switching) (at n : ℕ) (bytes : List ℕ) : Type 0 where
   pub there : at + n ≤ length bytes
   pub base : (at + n ≤ w.base_at) ⊎ (w.base_at + length w.base ≤ at)

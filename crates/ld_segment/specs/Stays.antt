@@ -8,11 +8,11 @@ pub record StaysOutside (from to : ℕ) (old new : List ℕ) : Type 0 where
   pub after : drop to new ≡ drop to old
   pub no_shorter : length old ≤ length new
 
--- so many bytes from a place on are as they were
+-- so many bytes from an offset on are as they were
 abbrev pub IsSameAt : ℕ → ℕ → List ℕ → List ℕ → Type 0
 IsSameAt at n old new = take n (drop at new) ≡ take n (drop at old)
 
--- these bytes stand at a place
+-- these bytes stand at an offset
 abbrev pub StandsAt : ℕ → List ℕ → List ℕ → Type 0
 StandsAt at piece bytes = take (length piece) (drop at bytes) ≡ piece
 

@@ -14,7 +14,7 @@ use std::alloc::{AllocError, Global};
 
 const OPEN: u8 = 1;
 
-/// Reads the body of the record at a place of a disk of so many bytes. It refuses with `Damaged(place)` where no record
+/// Reads the body of the record at an offset of a disk of so many bytes. It refuses with `Damaged(place)` where no record
 /// stands there, or no byte behind it.
 pub(crate) fn read_body<D: Disk>(
     alloc: Global,
@@ -41,7 +41,7 @@ pub(crate) fn read_body<D: Disk>(
     read_rest(alloc, disk, at, len, size)
 }
 
-/// Reads the open gate at a place, and gives the length behind it.
+/// Reads the open gate at an offset, and gives the length behind it.
 #[tactic(auto, using(ld_disk::proofs::Fine::fine_reads))]
 fn read_size<D: Disk>(disk: &mut D, at: u64) -> Result<u32, JournalFault>
     ensures size { IfOk result (λ n. IfSome (D.seen disk.old) (StandsAt at (1 ∷ to_be_bytes w32 n))) }

@@ -10,7 +10,7 @@ use crate::read_slot;
 use ld_disk::Disk;
 use ld_journal::JournalFault;
 
-/// Reads the slots behind the head, whose first has this place, and finds the one that counts. It refuses with
+/// Reads the slots behind the head, whose first has this offset, and finds the one that counts. It refuses with
 /// `Damaged(head)` where none does: where both are shut, or both are open and say the same number; and with `Damaged` and
 /// a slot's place where the disk ends within that.
 pub fn read_current<D: Disk>(disk: &mut D, head: u64) -> Result<Found, JournalFault>

@@ -4,8 +4,8 @@ ghost use Rattle.ld_segment.specs.Slots.{IsSlotAt};
 
 use crate::{Slot, second_counts};
 
-/// The place of the slot that counts and of the other one, whether that is open, and what the first says: the number of
-/// its switch, and the place of that switch's segment.
+/// The offset of the slot that counts and of the other one, whether that is open, and what the first says: the number of
+/// its switch, and the offset of that switch's segment.
 #[derive(Clone, Copy)]
 pub struct Found {
     pub this: u64,
@@ -18,7 +18,7 @@ pub struct Found {
 impl Found {
     ghost use Rattle.ld_segment.specs.Found.{IsFound, IsNoneTold};
 
-    /// Of two slots, the first of which stands at a place, the one that counts.
+    /// Of two slots, the first of which stands at an offset, the one that counts.
     #[tactic(auto, using(crate::proofs::FoundSlots::found_second, crate::proofs::FoundSlots::found_first))]
     pub(crate) fn of(head: u64, one: Slot, two: Slot) -> Option<Found>
         requires bound { head + 34 < 2 ^ 64 }

@@ -34,7 +34,7 @@ pub struct Later {
     pub gate: u64,
 }
 
-/// A later segment is read as it lies: its number, its place, its areas, its Base with the first byte of that, and the
+/// A later segment is read as it lies: its number, its offset, its areas, its Base with the first byte of that, and the
 /// slots, of which the one that doesn't count may be open or not. It isn't refused where it lies behind the slots.
 pub fn segments_are_read()
     ensures read { (opening version : Stage) (head : ℕ) (z : Slots) (g : Segment) (index : Whole) (bytes : List ℕ) (c : Read) → (is : IsLater opening version head z g index bytes)
@@ -45,8 +45,8 @@ pub fn segments_are_read()
         → g.number < 2 ^ 64 → g.place < 2 ^ 64 → head + 34 ≤ g.place → IsDamagedBehind opening head place bytes → ⊥ }
 {}
 
-/// Reads the slots behind the head, whose first has this place, and the Base that they name, on a disk of so many bytes.
-/// It refuses as `read_current` does where no slot counts, and with `Damaged(place)`, the Base's place, where no Base
+/// Reads the slots behind the head, whose first has this offset, and the Base that they name, on a disk of so many bytes.
+/// It refuses as `read_current` does where no slot counts, and with `Damaged(place)`, the Base's offset, where no Base
 /// stands there, or no version may stand behind it where the first segment is of this one.
 pub fn read_later<D: Disk>(
     alloc: Global,
@@ -83,7 +83,7 @@ pub fn read_later<D: Disk>(
     })
 }
 
-/// The Base that the body of the record at a place is, and the version behind it.
+/// The Base that the body of the record at an offset is, and the version behind it.
 fn judged(
     alloc: Global,
     body: &[u8],

@@ -1,4 +1,4 @@
-// What the bytes of a disk in segments stand for.
+// What the bytes of a disk in segments represent.
 ghost use Rattle.std.specs.Prelude.{◌≡◌, ◌≤◌, ◌+◌, List, ℕ, length, Option, None, Some, true, false};
 ghost use Rattle.ld_disk.specs.Record.{State};
 ghost use Rattle.ld_disk.specs.Plain.{Plain as DiskPlain, IsTold, after_calls, all_made};
@@ -18,7 +18,7 @@ ghost use Rattle.ld_segment.specs.Ops.{state_after, IsJournalOf};
 ghost use Rattle.ld_segment.specs.Plans.{Stays, First, Later, IsPlanTorn, planned, planned_calls, planned_count, planned_end, planned_made};
 ghost use Rattle.ld_segment.specs.Lies.{Slots, LiesAs, IsSound, StandsFor, StandsForEither, MayKeep, IsRowTorn, written, segment_for, gate_in, first_switch, next_switch, row_of, op_row, row_made, slots_with, marked_in, mark_passes, switching, layout_left, plain_left};
 
-/// Bytes lie in one way at most, so they stand for one plain state at most.
+/// Bytes lie in one way at most, so they represent one plain state at most.
 pub fn bytes_stand_for_one_state()
     ensures { (p q : Whole) (bytes : List ℕ) → StandsFor p bytes → StandsFor q bytes → p ≡ q }
 {}
@@ -28,13 +28,13 @@ pub fn bytes_lie_in_one_way()
     ensures { (v w : Version) (y x : Layout) (z q : Slots) (bytes : List ℕ) → LiesAs v y z bytes → IsSound y → LiesAs w x q bytes → IsSound x → (v ≡ w) × (y ≡ x) }
 {}
 
-/// A crash in an op's calls leaves bytes that stand for the plain state as it was, or with the op.
+/// A crash in an op's calls leaves bytes that represent the plain state as it was, or with the op.
 pub fn kept_ops_or_not()
     ensures { (y : Layout) (z : Slots) (o : Kind) (b c : List ℕ) → LiesAs (written y) y z b → IsSound y → MayKeep y o → IsRowTorn 13 y z (op_bytes o) b c
         → StandsForEither (read_plain b y.index) (apply (read_plain b y.index) o) c }
 {}
 
-/// Once all calls of an op were made, the bytes lie as the layout with it says, and stand for the plain state with it.
+/// Once all calls of an op were made, the bytes lie as the layout with it says, and represent the plain state with it.
 pub fn kept_ops_are_durable()
     ensures lies { (y : Layout) (z : Slots) (o : Kind) (bytes : List ℕ) (s : State) → LiesAs (written y) y z bytes → IsSound y → MayKeep y o → IsSafe bytes s
         → LiesAs (written (kept_in y o)) (kept_in y o) (slots_with y z (op_length o)) (all_made (op_row y z o) s).bytes × IsSafe (all_made (op_row y z o) s).bytes (all_made (op_row y z o) s) }
@@ -57,7 +57,7 @@ pub fn picture_decides_the_layout()
         → read_plain (crashed_by later (after_calls (op_row y z o) p).state).bytes (layout_left y o call how later).index ≡ plain_left (read_plain bytes y.index) y o call how later }
 {}
 
-/// A journal of one segment stands for what it did before there were others: the plain state that its records add up to.
+/// A journal of one segment represents what it did before there were others: the plain state that its records add up to.
 pub fn journals_stand_as_before()
     ensures { (vs : List Record) (bytes : List ℕ) → IsJournalOf vs bytes → StandsFor (state_after vs) bytes }
 {}
@@ -76,7 +76,7 @@ pub fn plans_are_rows()
     ensures fits { (y : Layout) (z : Slots) (o : Kind) (b : List ℕ) → LiesAs (written y) y z b → IsSound y → MayKeep y o → planned_end (planned 13 y z (op_bytes o)) ≤ journal_limit }
 {}
 
-/// A mark leaves the plain state as it is: whatever a crash leaves of its calls stands for it, and once all are made the
+/// A mark leaves the plain state as it is: whatever a crash leaves of its calls represents it, and once all are made the
 /// journal is one of the second version. They lie within the limit where it doesn't pass that.
 pub fn marks_change_no_state()
     ensures torn { (y : Layout) (z : Slots) (b c : List ℕ) → LiesAs OfFirst y z b → IsSound y → mark_passes y ≡ false → IsRowTorn 9 y z (record_bytes Mark) b c → StandsFor (read_plain b y.index) c }

@@ -24,7 +24,7 @@ pub(crate) enum Switch {
         head: [u8; 9],
         piece: [u8; 14],
     },
-    /// The Base at its place, and what the other slot says, which may be open.
+    /// The Base at its offset, and what the other slot says, which may be open.
     Later {
         base_at: u64,
         base: Vec<u8>,
@@ -98,8 +98,8 @@ impl Plan {
         })
     }
 
-    /// A record behind a later switch: the Base's record, which is given with a gate behind it, goes to its place, and
-    /// the slot that doesn't count is to say this number and that place.
+    /// A record behind a later switch: the Base's record, which is given with a gate behind it, goes to its offset, and
+    /// the slot that doesn't count is to say this number and that offset.
     pub fn later(
         alloc: Global,
         base_at: u64,
@@ -144,7 +144,7 @@ impl Plan {
         }
     }
 
-    /// The place behind all that it writes, or the greatest number where that is more.
+    /// The offset behind all that it writes, or the greatest number where that is more.
     pub fn end(&self) -> u64
         ensures { result ≡ min (planned_end (seen_plan self.now)) (2 ^ 64 - 1) }
     {
@@ -153,7 +153,7 @@ impl Plan {
     }
 }
 
-/// The place behind all that a switch writes, or the greatest number where that is more.
+/// The offset behind all that a switch writes, or the greatest number where that is more.
 fn switch_end(switch: &Switch) -> u64
     ensures { result ≡ min (end_before (seen_switch switch.now)) (2 ^ 64 - 1) }
 {
@@ -198,7 +198,7 @@ fn piece_of(alloc: Global, body: &[u8]) -> Result<Vec<u8>, AllocError>
     Ok(piece)
 }
 
-/// The body of the head, which holds the place of the slots.
+/// The body of the head, which holds the offset of the slots.
 pub fn head(place: u64) -> [u8; 9]
     ensures { result ≡ head_bytes place }
 {
@@ -218,7 +218,7 @@ fn head_piece(head: &[u8; 9]) -> [u8; 14]
     bytes
 }
 
-/// Both slots as the first switch writes them: the first is open, and says that the first later segment has this place.
+/// Both slots as the first switch writes them: the first is open, and says that the first later segment has this offset.
 pub fn first_slots(place: u64) -> [u8; 34]
     ensures { result ≡ 1 ∷ (says_bytes 1 place ++ (0 ∷ says_bytes 0 0)) }
 {

@@ -13,7 +13,7 @@ use ld_journal::JournalFault;
 
 const OPEN: u8 = 1;
 
-/// Reads the slot at a place. It refuses with `Disk` where a call of the disk failed, and with `Damaged(place)` where the
+/// Reads the slot at an offset. It refuses with `Disk` where a call of the disk failed, and with `Damaged(place)` where the
 /// disk ends within the slot.
 #[tactic(auto, using(ld_disk::proofs::Fine::fine_reads))]
 pub fn read_slot<D: Disk>(disk: &mut D, at: u64) -> Result<Slot, JournalFault>
@@ -38,7 +38,7 @@ pub fn read_slot<D: Disk>(disk: &mut D, at: u64) -> Result<Slot, JournalFault>
     Ok(slot_in(&bytes))
 }
 
-/// The slot that seventeen bytes are: a gate, a number and a place.
+/// The slot that seventeen bytes are: a gate, a number and an offset.
 fn slot_in(bytes: &[u8]) -> Slot
     requires { length bytes.now ≡ 17 }
     ensures open { result.open ≡ (get_or bytes.now 0 0 == 1) }

@@ -18,7 +18,7 @@ const OPEN: u8 = 1;
 
 impl Plan {
     /// The plan of a record of this body, and the new segment that it needs, where there is one; none where that would pass
-    /// the limit, or its Base or its number would be too long. A Base begins with `kind`. `other` is the place of the slot
+    /// the limit, or its Base or its number would be too long. A Base begins with `kind`. `other` is the offset of the slot
     /// that doesn't count, which may be open.
     pub fn of(
         alloc: Global,

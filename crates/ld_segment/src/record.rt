@@ -14,7 +14,7 @@ use ld_io::Failed;
 
 const OPEN: u8 = 1;
 
-/// Writes a record behind the gate at this place, and opens the gate once that is on the disk: four writing calls.
+/// Writes a record behind the gate at this offset, and opens the gate once that is on the disk: four writing calls.
 /// `piece` is the body's length, the body, and the next gate, which isn't open.
 pub fn append_record<D: Disk>(
     disk: &mut D,

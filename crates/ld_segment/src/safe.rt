@@ -10,7 +10,7 @@ ghost use Rattle.ld_segment.specs.Left.{safe_calls, both_calls, TornTwice};
 use ld_disk::Disk;
 use ld_io::Failed;
 
-/// Writes bytes at a place and syncs them, in two writing calls. A crash at any moment leaves that write torn.
+/// Writes bytes at an offset and syncs them, in two writing calls. A crash at any moment leaves that write torn.
 pub(crate) fn write_safe<D: Disk>(disk: &mut D, at: u64, bytes: &[u8]) -> Result<(), Failed>
     requires room { 2 ≤ D.room disk.old }
     requires place { at + length bytes.now ≤ D.reach disk.old }
@@ -29,7 +29,7 @@ pub(crate) fn write_safe<D: Disk>(disk: &mut D, at: u64, bytes: &[u8]) -> Result
     disk.sync()
 }
 
-/// Writes bytes at two places and syncs both, in three writing calls. A crash at any moment leaves both writes torn.
+/// Writes bytes at two offsets and syncs both, in three writing calls. A crash at any moment leaves both writes torn.
 pub(crate) fn write_both<D: Disk>(
     disk: &mut D,
     at: u64,

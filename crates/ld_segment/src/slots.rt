@@ -4,7 +4,7 @@ ghost use Rattle.ld_segment.specs.Slots.{second_counts, current, says_bytes};
 
 use byteorder::{BigEndian, ByteOrder};
 
-/// A slot: whether its gate is open, the number of the switch that wrote it, and the place of that switch's segment.
+/// A slot: whether its gate is open, the number of the switch that wrote it, and the offset of that switch's segment.
 #[derive(Clone, Copy)]
 pub struct Slot {
     pub open: bool,
@@ -32,7 +32,7 @@ pub fn current(one: Slot, two: Slot) -> Option<Slot>
     }
 }
 
-/// What stands behind a slot's gate: the number and the place, eight bytes each.
+/// What stands behind a slot's gate: the number and the offset, eight bytes each.
 pub fn says(number: u64, place: u64) -> [u8; 16]
     ensures { result ≡ says_bytes number place }
 {

@@ -50,7 +50,7 @@ pub fn switch_later<D: Disk>(
     write_safe(disk, slot_at, &[OPEN])
 }
 
-/// The first switch, in six writing calls: behind the head's place both slots and the Base, with an ending gate; then
+/// The first switch, in six writing calls: behind the head's offset both slots and the Base, with an ending gate; then
 /// the head's record, the first segment's last.
 pub fn switch_first<D: Disk>(
     disk: &mut D,

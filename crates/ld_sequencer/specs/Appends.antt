@@ -51,7 +51,7 @@ all_acked s m = all_of (λ p. is_acked s p.1) m
 abbrev pub empty_row : Spec → ℕ → Row
 empty_row spec epoch = record { spec = spec; epoch = epoch; lng = 0; appends = [] }
 
--- the next append's place in the epoch
+-- the next append's offset in the epoch
 abbrev pub next_place : Row → ℕ
 next_place r = r.lng + length r.appends + 1
 

@@ -61,7 +61,7 @@ new_own origin spec epoch lce = record { origin = origin; row = empty_row spec e
 abbrev pub sent_by : Own → List (ℕ × Body) → List Msg
 sent_by o bs = posted (whos.Sequencer o.row.epoch) o.row.spec.log bs
 
--- why an append is refused, with a payload of so many bytes; for want of memory only where nothing else stands against it
+-- why an append is refused, with a payload of so many bytes; when out of memory only where nothing else stands against it
 abbrev pub append_fault : ℕ → Appending → SequencerFault
 append_fault n TooLong = faults.PayloadTooLong n
 append_fault n (Preempted k) = faults.Preempted k

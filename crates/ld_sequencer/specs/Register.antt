@@ -14,7 +14,7 @@ use Rattle.ld_sequencer.specs.declared.fault.CloseFault.{CloseFault}
 use Rattle.ld_sequencer.specs.declared.fault.SequencerFault.{SequencerFault}
 use Rattle.ld_sequencer.specs.declared.fault.SequencerFault.TheVariants as sequencers
 
--- want of memory passes as such
+-- running out of memory passes as such
 abbrev pub of_register : RegisterFault → SequencerFault
 of_register registers.NoMemory = sequencers.NoMemory
 of_register registers.Failed = sequencers.Register registers.Failed

@@ -230,7 +230,7 @@ pub record IsFresh (w : Whole) (a : Acts) : Type 0 where
 
 -- ---- refusals ----
 
--- for want of memory
+-- when out of memory
 abbrev pub lacks_memory : Result Report SequencerFault → Bool
 lacks_memory (Err faults.NoMemory) = true
 lacks_memory _ = false

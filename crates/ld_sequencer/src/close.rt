@@ -47,7 +47,7 @@ pub(crate) enum Tried {
 /// A short close is taken only as long as no greater epoch was handed out than its sequencer's.
 /// The close isn't known to be made where a call of the register failed, which its count of faults tells, or where the
 /// register's journal is full. It is refused with `LogLimit` exactly where 64 other logs are held,
-/// with `Damaged` and a place where the register's bytes are no journal from there on, and for want of memory.
+/// with `Damaged` and a place where the register's bytes are no journal from there on, and when out of memory.
 pub(crate) fn close<G: Register>(
     alloc: Global,
     reg: &mut G,

@@ -16,7 +16,7 @@ pub enum SequencerFault {
     /// The sequencer of this greater epoch is at work.
     #[error("preempted by epoch {0}")]
     Preempted(u32),
-    /// The next place would be 2^32-1.
+    /// The next offset would be 2^32-1.
     #[error("the epoch is full")]
     EpochFull,
     /// 128 appends wait.
@@ -25,7 +25,7 @@ pub enum SequencerFault {
     /// A trim goes past this released number.
     #[error("the number is above the released one")]
     PastReleased(Lsn),
-    /// The register refused so. It is never want of memory.
+    /// The register refused so. It is never out of memory.
     #[error("the register refused: {0}")]
     Register(RegisterFault),
     /// There is no memory left.

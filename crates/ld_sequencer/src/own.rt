@@ -150,8 +150,8 @@ impl OwnEpoch {
 
     /// Numbers the payload and sends it to as many nodes of its epoch as are to store it, and some more as was fixed for it. It is refused
     /// with `PayloadTooLong` and its length exactly above 65,535 bytes, then with `Preempted` and the greater epoch exactly
-    /// where one was learnt, then with `EpochFull` exactly where the next place is 2^32-1, then with `WindowFull` exactly
-    /// where 128 appends wait, and then for want of memory. A refused append has changed nothing and sent nothing. Behind
+    /// where one was learnt, then with `EpochFull` exactly where the next offset is 2^32-1, then with `WindowFull` exactly
+    /// where 128 appends wait, and then when out of memory. A refused append has changed nothing and sent nothing. Behind
     /// messages it sends messages, and so does each other call.
     #[tactic(auto, using(crate::proofs::Begins::back_rules, crate::proofs::Bounded::message_rules))]
     pub fn append(
@@ -182,7 +182,7 @@ impl OwnEpoch {
     }
 
     /// Tells all nodes of the configuration that all up to the number may go. It is refused with `PastReleased` and the released
-    /// number exactly where the number is above it, and then for want of memory. A refused trim has sent nothing.
+    /// number exactly where the number is above it, and then when out of memory. A refused trim has sent nothing.
     pub fn trim(&self, lsn: Lsn, out: &mut Outbox) -> Result<(), SequencerFault>
         ensures within { OnOk result (lsn ≤ released_of (sequencer_of self.now)) }
         ensures out { OnOk result (out.new ≡ out.old ++ sent_by self.now (to_each (Trim lsn) (members self.now.origin.nodes))) }

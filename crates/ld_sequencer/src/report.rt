@@ -40,7 +40,7 @@ impl Report {
     }
 }
 
-/// Whether a call was refused for want of memory.
+/// Whether a call was refused when out of memory.
 pub(crate) fn lacks_memory(answer: &Result<Report, SequencerFault>) -> bool
     ensures { result ≡ lacks_memory answer.now }
 {

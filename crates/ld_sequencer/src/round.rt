@@ -15,7 +15,7 @@ use ld_msg::Outbox;
 use ld_recovery::Sender;
 use std::alloc::Global;
 
-/// A round of sending appends that aren't acknowledged, with the last known good place and the nodes that are lost for their
+/// A round of sending appends that aren't acknowledged, with the last known good offset and the nodes that are lost for their
 /// epoch.
 #[derive(Clone, Copy)]
 pub(crate) struct Round {

@@ -74,7 +74,7 @@ impl Row {
         self.epoch
     }
 
-    /// The greatest place such that it and all below are acknowledged, 0 where the first isn't.
+    /// The greatest offset such that it and all below are acknowledged, 0 where the first isn't.
     pub fn lng(&self) -> u32
         ensures { result ≡ self.now.lng }
     {
@@ -96,7 +96,7 @@ impl Row {
         self.waiting.len() == 0
     }
 
-    /// The place that the next append gets.
+    /// The offset that the next append gets.
     #[tactic(auto, using(crate::proofs::Rows::row_rules))]
     pub fn next_place(&self) -> u32
         ensures { result ≡ next_place self.now }
@@ -181,7 +181,7 @@ impl Row {
         Ok(())
     }
 
-    /// The place of a number among those that wait.
+    /// The offset of a number among those that wait.
     #[tactic(auto, using(crate::proofs::Rows::row_rules))]
     fn place_of(&self, number: Lsn) -> Option<usize>
         ensures some { IfSome result (λ i. (i < length self.now.appends) × (number ≡ numbered self.now.epoch (self.now.lng + 1) + i)) }
@@ -195,7 +195,7 @@ impl Row {
         Some((value - first) as usize)
     }
 
-    /// A node stored the append of this place.
+    /// A node stored the append of this offset.
     fn count(&mut self, place: usize, node: NodeId) -> bool
         requires { place < length self.old.appends }
         ensures row { (number : ℕ) → number ≡ numbered self.old.epoch (self.old.lng + 1) + place → self.new ≡ stores self.old node number (find number self.old.appends) }
@@ -209,7 +209,7 @@ impl Row {
     }
 }
 
-/// A node stored the append of this place. Answers whether enough nodes had before, and have now.
+/// A node stored the append of this offset. Answers whether enough nodes had before, and have now.
 fn store_at(waiting: &mut VecDeque<Pending>, place: usize, node: NodeId) -> (bool, bool)
     requires { place < length waiting.old.items }
     ensures { (w : Waiting) → slice_get waiting.old.items place ≡ Some w → (waiting.new.items ≡ set waiting.old.items place (with_stored w node)) × (result.0 ≡ is_enough w) × (result.1 ≡ is_enough (with_stored w node)) }
@@ -229,7 +229,7 @@ fn raise_all(waiting: &mut VecDeque<Pending>)
     }
 }
 
-/// The one of this place goes to its next wave, where it isn't stored often enough.
+/// The one of this offset goes to its next wave, where it isn't stored often enough.
 fn raise_at(waiting: &mut VecDeque<Pending>, place: usize)
     requires { place < length waiting.old.items }
     ensures len { length waiting.new.items ≡ length waiting.old.items }

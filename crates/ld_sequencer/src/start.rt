@@ -33,10 +33,10 @@ impl Sequencer {
     /// for what they have. `nodes` are all nodes of the configuration, and `first` counts for an epoch for which the register
     /// shows nothing.
     ///
-    /// It is refused with `Register` as the register refuses the activation, and for want of memory. Of a register that tells
-    /// what it holds that is with `Failed` only where its count of faults rose, with `Damaged` and a place only where its
+    /// It is refused with `Register` as the register refuses the activation, and when out of memory. Of a register that tells
+    /// what it holds that is with `Failed` only where its count of faults rose, with `Damaged` and an offset only where its
     /// bytes are no journal from there on, and else just as what it holds says. A refused activation has sent nothing, and
-    /// for want of memory no epoch is handed out by a register that holds to what it holds. Behind messages an activation sends
+    /// when out of memory no epoch is handed out by a register that holds to what it holds. Behind messages an activation sends
     /// messages, and so does each other call, however it ends: a frame can be made of each.
     pub fn activate<G: Register>(
         alloc: Global,

@@ -83,8 +83,8 @@ impl Sequencer {
 
     /// Numbers the payload and sends it to as many nodes of its epoch as are to store it, and some more as was fixed for it. It is refused
     /// with `PayloadTooLong` and its length exactly above 65,535 bytes, then with `Preempted` and the greater epoch exactly
-    /// where one was learnt, then with `EpochFull` exactly where the next place is 2^32-1, then with `WindowFull` exactly
-    /// where 128 appends wait, and then for want of memory. A refused append has changed nothing and sent nothing.
+    /// where one was learnt, then with `EpochFull` exactly where the next offset is 2^32-1, then with `WindowFull` exactly
+    /// where 128 appends wait, and then when out of memory. A refused append has changed nothing and sent nothing.
     #[tactic(auto, unfolding(ld_msg::specs::Sequencer::appending))]
     pub fn append(
         &mut self,
@@ -105,7 +105,7 @@ impl Sequencer {
     }
 
     /// Tells all nodes of the configuration that all up to the number may go. It is refused with `PastReleased` and the released
-    /// number exactly where the number is above it, and then for want of memory. A refused trim has sent nothing.
+    /// number exactly where the number is above it, and then when out of memory. A refused trim has sent nothing.
     pub fn trim(&self, lsn: Lsn, out: &mut Outbox) -> Result<(), SequencerFault>
         ensures within { OnOk result (lsn ≤ released_of self.now.sequencer) }
         ensures out { OnOk result (out.new ≡ out.old ++ sent_as self.now (to_each (Trim lsn) (members self.now.origin.nodes))) }
@@ -135,7 +135,7 @@ impl Sequencer {
     ///
     /// Where word comes that the recovered epoch is closed, and the next one is before its own, the register is looked at
     /// first. Where it doesn't answer, the call is refused with `Register`, and `Failed`, only where the count of faults rose,
-    /// or `Damaged` and a place: nothing has been done and nothing sent.
+    /// or `Damaged` and an offset: nothing has been done and nothing sent.
     ///
     /// It is refused with `Register` and `LogLimit` exactly where 64 other logs are held, and with `Register`, `Damaged` and a
     /// place where the register's bytes are no journal from there on: then all has been done but the close, which a retry

@@ -1,4 +1,4 @@
--- Where peers speak in frames and the store can be opened, only faults, limits and want of memory stop a node.
+-- Where peers speak in frames and the store can be opened, only faults, limits and running out of memory stop a node.
 use Rattle.std.proofs.Common.{◌≡◌, ◌⊎◌, ⊎_elim, inl, inr, ℕ, List, [], ◌∷◌, ◌++◌, Bool, true, false, Option, Some, Ok, Err, sym, ap, subst, ◌∙◌, append_assoc}
 use Rattle.std.specs.Prelude.{⊤, IfErr, IfSome}
 use Rattle.std.specs.declared.result.Result.{Result}

@@ -153,7 +153,7 @@ module _ {D : Type 0} {g : Ghosts D} (seen : D → Option (List ℕ)) (may_leave
       let held = blank_holds bytes old blank opened in
       subst (λ (y : Layout). (c : Contents) → holds c → (given : Drawn) × (answered given ≡ drawn c id) × IsPast y (Some (format_of given))) (blank_layout old blank held) (full held)
 
-  -- a node that isn't blank stands for what its disk stood for
+  -- a node that isn't blank represents what its disk represented
   pub opens_found : (holds_now : Contents → Type 0) (o : Option (List ℕ)) (node : Node D g) → is_blank node ≡ false → IfSome o (IsOpened seen may_leave node)
       → IfSome o (IfStands (IsOpening holds holds_now id format (plain_of node)))
   opens_found holds_now None node some opened = tt

@@ -1,4 +1,4 @@
--- When only faults, limits and want of memory stop a node: its peers speak in frames, and its store can be opened.
+-- When only faults, limits and running out of memory stop a node: its peers speak in frames, and its store can be opened.
 use Rattle.std.specs.Prelude.{◌≡◌, ◌⊎◌, ℕ, List, [], ◌∷◌, ◌++◌, Bool, true}
 use Rattle.ld_msg.specs.declared.msg.Msg.{Msg}
 use Rattle.ld_wire.specs.Streams.{frames_of, AreMessages}
@@ -32,7 +32,7 @@ pub record MayFormat (Told : Type 0) (damaged : ℕ → Type 0) (format : Bool) 
 abbrev pub MayOpen : Type 0 → (ℕ → Type 0) → Bool → List ℕ → Type 0
 MayOpen Told damaged format bytes = ((p : Plain) × IsFormatted p bytes) ⊎ MayFormat Told damaged format bytes
 
--- a fault of the disk, the register or the link, a limit, or want of memory
+-- a fault of the disk, the register or the link, a limit, or running out of memory
 abbrev pub IsFaultOrLimit : Stop → Type 0
 IsFaultOrLimit (BadFrame fault) = ⊥
 IsFaultOrLimit (Damaged which place) = ⊥

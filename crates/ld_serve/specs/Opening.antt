@@ -1,4 +1,4 @@
--- How a node is opened: what it stands for then, and why it may be refused.
+-- How a node is opened: what it represents then, and why it may be refused.
 use Rattle.std.specs.Prelude.{◌≡◌, ◌⊎◌, ◌≤◌, ◌-◌, ◌^◌, ℕ, List, [], Bool, true, false, Option, None, Some, IfSome}
 use Rattle.ld_io.specs.Causes.{Rose}
 use Rattle.ld_msg.specs.Register.{Register as Contents, generation_of}
@@ -17,7 +17,7 @@ use Rattle.ld_serve.specs.declared.stop.Stop.{Stop}
 use Rattle.ld_serve.specs.declared.stop.Stop.TheVariants as stops
 use Rattle.ld_serve.specs.declared.stop.Which.TheVariants.{Store, Register}
 
--- a disk tells bytes that stand for a plain state
+-- a disk tells bytes that represent a plain state
 abbrev pub Stands : Option (List ℕ) → Type 0
 Stands None = ⊥
 Stands (Some bytes) = (p : Plain) × StandsFor p bytes
@@ -26,7 +26,7 @@ Stands (Some bytes) = (p : Plain) × StandsFor p bytes
 abbrev pub IsBlank : List ℕ → Type 0
 IsBlank bytes = IsJournalOf [] bytes
 
--- some record stands on the disk, and its bytes stand for this state
+-- some record stands on the disk, and its bytes represent this state
 pub record IsFormatted (p : Plain) (bytes : List ℕ) : Type 0 where
   pub some : IsBlank bytes → ⊥
   pub stands : StandsFor p bytes

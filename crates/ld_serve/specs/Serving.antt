@@ -1,4 +1,4 @@
--- A node that serves: what a message makes of it, and what its disk stands for.
+-- A node that serves: what a message makes of it, and what its disk represents.
 use Rattle.std.specs.Prelude.{◌≡◌, ◌⊎◌, ⊤, ℕ, List, Option}
 use Rattle.ld_msg.specs.declared.msg.Msg.{Msg}
 use Rattle.ld_op.specs.declared.op.Op.{Op}
@@ -34,7 +34,7 @@ module _ {D : Type 0} {g : Ghosts D} where
   abbrev pub IsAt : State → Stop → Node D g → Type 0
   IsAt last stop node = (stop ≡ Disk) ⊎ (last ≡ state_of node)
 
--- all that may be left lies as this layout says, and stands for this plain state; and the op's record, or the segment that it needs, would pass the journal's limit
+-- all that may be left lies as this layout says, and represents this plain state; and the op's record, or the segment that it needs, would pass the journal's limit
 pub record PastLimit (left : List ℕ → Type 0) (p : Plain) (op : Option Op) : Type 0 where
   pub layout : Layout
   pub slots : Slots

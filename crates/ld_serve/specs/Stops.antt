@@ -11,7 +11,7 @@ abbrev pub LinkCounts : ℕ → ℕ → Stop → Type 0
 LinkCounts before now Link = Rose before now
 LinkCounts before now _ = now ≡ before
 
--- no frame could be taken of the bytes that are held: for want of memory, or of more bytes as the link failed, or since they begin none
+-- no frame could be taken of the bytes that are held: when out of memory, or of more bytes as the link failed, or since they begin none
 abbrev pub IsUnread : List ℕ → Stop → Type 0
 IsUnread held NoMemory = Unit {0}
 IsUnread held Link = Unit {0}
@@ -47,7 +47,7 @@ abbrev pub RegisterCounts : ℕ → ℕ → Stop → Type 0
 RegisterCounts before now Register = Rose before now
 RegisterCounts before now _ = now ≡ before
 
--- while it serves it stops for want of memory, or with the disk, the link, bytes that begin no frame, or a store that is full; or with a payload that is missing there, where its store
+-- while it serves it stops when out of memory, or with the disk, the link, bytes that begin no frame, or a store that is full; or with a payload that is missing there, where its store
 -- doesn't hold what its disk has
 abbrev pub IsServingStop : Type 0 → Stop → Type 0
 IsServingStop Held NoMemory = Unit {0}

@@ -36,7 +36,7 @@ module _ (seen : List ℕ) (left : List ℕ → Type 0) (holds holds_now : Conte
 
 -- of a disk that may have shown bytes
 module _ (seen : Option (List ℕ)) (left : List ℕ → Type 0) (holds holds_now : Contents → Type 0) (id : ℕ) (known : Known) (format : Bool) where
-  -- the node was opened and served, and where the disk showed bytes that stand for a plain state, its answers are those of that
+  -- the node was opened and served, and where the disk showed bytes that represent a plain state, its answers are those of that
   pub record HasServed (start : Peers) (now : Option Peers) (turns : ℕ) : Type 0 where
     pub heard : Heard start now turns
     pub exact : IfSome seen (IfStands (λ bytes. ServedOn bytes left holds holds_now id known format start now turns))

@@ -108,7 +108,7 @@ pub fn open<D: Disk, G: Register>(
     // What the register held it holds then with the draw or without it, unless it failed.
     ensures draw { IfErr result (λ e. HoldsDrawOrNot (G.holds reg.old) (G.holds reg.new) id e.1) }
 
-    // What may be left then might have been left before, or stands for the same as the store of the first version that
+    // What may be left then might have been left before, or represents the same as the store of the first version that
     // was to be marked, or is left by the format.
     ensures leaves { IfErr result (λ e. IfSome (D.seen disk) (λ shown. (bytes : List ℕ) → D.may_leave e.0 bytes → LeftOrMarked (D.may_leave disk) shown bytes ⊎ ((format ≡ true) × LeftByFormat (G.holds reg.old) id bytes))) }
     ensures unasked { format ≡ false → reg.new ≡ reg.old }

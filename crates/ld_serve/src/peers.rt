@@ -86,7 +86,7 @@ pub fn serve_peers<D: Disk, L: Link>(
         → IfErr result (λ stop. (last : State) × IsAt last stop node.new × IsStopped (after (id_of node.old) (known_of node.old)) (answers (id_of node.old) (known_of node.old))
         (IsCut (id_of node.old) (known_of node.old) (D.may_leave (disk_of node.new)) stop) start (state_of node.old) (L.peers link.new) last) }
 
-    // After the turns the disk stands for the node's plain state.
+    // After the turns the disk represents the node's plain state.
     ensures holds { Holds D.seen D.may_leave node.old → OnOk result (Holds D.seen D.may_leave node.new) }
     ensures rest { (id_of node.new ≡ id_of node.old) × (known_of node.new ≡ known_of node.old) × (is_blank node.new ≡ false) }
     ensures itself { D.identity (disk_of node.new) ≡ D.identity (disk_of node.old) }

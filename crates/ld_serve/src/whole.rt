@@ -68,18 +68,18 @@ fn serve_on<D: Disk, G: Register, L: Link>(
 /// frame is dropped); a frame for another node, or of a log that the node doesn't know, is a turn without an answer. It
 /// ends after so many turns, whatever the present peer has left to say, or where there is no next peer.
 ///
-/// The node begins in the plain state that its disk stands for, with nothing released; a store of the first version is
+/// The node begins in the plain state that its disk represents, with nothing released; a store of the first version is
 /// marked as one of the second, which leaves that state as it is. Where the disk is blank and `format` is asked for, it is formatted first under a generation that the register draws, and the register holds that
 /// one draw more from then on.
 ///
 /// What the answers say of the node's state, and their payloads, is exact where the disk tells what bytes it has, and they
-/// stand for a plain state. Where it tells nothing, or bytes that a load takes though they stand for none, the answers are
+/// represent a plain state. Where it tells nothing, or bytes that a load takes though they represent none, the answers are
 /// messages that the node made of what its disk gave it, and of their content nothing is said.
 ///
 /// It refuses before the link is called as `open` does: `Disk`, `Damaged`, `Blank`, `Register`, `GenLimit`, `Full`,
 /// `NoMemory`. Then it stops as `serve_peers` does: `Link`, `BadFrame`, `Disk`, `Full(Store)`, `NoMemory`, and, only where
-/// the disk doesn't tell bytes that stand for a plain state, `Damaged(Store, place)` at a payload; what was done before
-/// stands, the last answers may be written in part, and the disk stands for the state before the last step or after it.
+/// the disk doesn't tell bytes that represent a plain state, `Damaged(Store, place)` at a payload; what was done before
+/// stands, the last answers may be written in part, and the disk represents the state before the last step or after it.
 /// `Disk`, `Register` and `Link` come only where that one's own count of faults rose in this call. `BadFrame`, `Damaged`
 /// and `Blank` don't come where the peers speak in frames and the disk holds a formatted store.
 pub fn serve<D: Disk, G: Register, L: Link>(
@@ -95,8 +95,8 @@ pub fn serve<D: Disk, G: Register, L: Link>(
     // The frames that were taken, in order over all peers, are decoded, and each has its answers. What was written to
     // each peer is the frames of the answers to its frames, in order, and nothing else. Each peer but the present one was
     // read to its end: its bytes are the frames that were taken, and then less than one. Where the disk tells bytes that
-    // stand for a plain state, each frame is one step of the node from that one, its answers are those of that step, and
-    // afterwards the disk stands for the last plain state.
+    // represent a plain state, each frame is one step of the node from that one, its answers are those of that step, and
+    // afterwards the disk represents the last plain state.
     ensures served { (start : Peers) → L.peers link.old ≡ Some start
         → OnOk result (HasServed (D.seen disk.old) (D.may_leave disk.new) (G.holds reg.old) (G.holds reg.new) id (known_in config.now) format start (L.peers link.new) turns) }
 
@@ -112,8 +112,8 @@ pub fn serve<D: Disk, G: Register, L: Link>(
         ⊎ IsServingStop (Stands (D.seen disk.old)) stop) }
 
     // Where the peers' bytes are frames, but for a last one that may be cut, and the disk's bytes are those of a formatted
-    // store, or are blank, to be formatted, beside a register that isn't damaged: it ends with Ok, or for want of
-    // memory, a fault of one of the three, or a limit, which have their causes above.
+    // store, or are blank, to be formatted, beside a register that isn't damaged: it ends with Ok, or when out of memory, a
+    // fault of one of the three, or a limit, which have their causes above.
     ensures complete { (start : Peers) (bytes : List ℕ) → L.peers link.old ≡ Some start → AreSpoken start.coming → D.seen disk.old ≡ Some bytes
         → MayOpen (G.told reg.old) (G.damaged reg.old) format bytes → IfErr result IsFaultOrLimit }
     ensures unasked { format ≡ false → reg.new ≡ reg.old }

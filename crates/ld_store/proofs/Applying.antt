@@ -208,7 +208,7 @@ module _ {D : Type 0} {g : Ghosts D} (may_leave : D → List ℕ → Type 0) (ol
         works = works;
       }
 
-    -- it stands for the plain state with the op
+    -- it represents the plain state with the op
     pub applied_now : (new : Store D g) → Holds g.seen may_leave new → layout_of new ≡ kept_in y o → Rests g.seen may_leave (disk_of new) (row_made 13 (layout_in old.laid i) z body holds.bytes) → plain_of new ≡ apply (plain_of old) o
     applied_now new held laid rests =
         let kept = kept_made y z holds.bytes o holds.lies holds.sound (may none) in
@@ -219,7 +219,7 @@ module _ {D : Type 0} {g : Ghosts D} (may_leave : D → List ℕ → Type 0) (ol
 -- ---- a store that stays ----
 
 module _ {D : Type 0} {g : Ghosts D} (seen : D → Option (List ℕ)) (may_leave : D → List ℕ → Type 0) (moment : D → ℕ) (left_since : D → ℕ → List ℕ → Type 0) (now : (d : D) (c : List ℕ) → left_since d (moment d) c → may_leave d c) where
-  -- of a store that holds a crash leaves what stands for its plain state, where its disk is as it was
+  -- of a store that holds a crash leaves what represents its plain state, where its disk is as it was
   pub same_leaves : (old : Store D g) (new : D) (q : Plain) → Holds seen may_leave old → Unchanged seen may_leave moment left_since (disk_of old) new → LeavesOnly moment left_since (disk_of old) new (StandsForEither (plain_of old) q)
   same_leaves old new q holds same =
       stays_on moment left_since seen may_leave (disk_of old) (disk_of old) new (StandsForEither (plain_of old) q)

@@ -1,4 +1,4 @@
--- Bytes that stand for a plain state are read without damage.
+-- Bytes that represent a plain state are read without damage.
 use Rattle.std.proofs.Common.{◌≡◌, inl, ⊎_elim, ◌<◌, ◌≤◌, ◌+◌, ◌^◌, drop, ℕ, List, [], ◌∷◌, ◌++◌, length, Option, Some, None, is_some, true, sym, ◌∙◌, ap, refl, subst, arith, append_assoc}
 use Rattle.std.proofs.lemmas.List.Elements.{All-nil}
 use Rattle.ld_journal.specs.Format.{framed, IsJournal, Fits}
@@ -87,7 +87,7 @@ some_is : (a : Option Segment) → is_some a ≡ true → (g : Segment) × (a �
 some_is None is = absurd (cc is)
 some_is (Some g) is = (g, refl)
 
--- number and place of a sound segment fit their fields
+-- number and offset of a sound segment fit their fields
 pub fits_is : (y : Layout) (g : Segment) → IsSound y → y.later ≡ Some g → (g.number < 2 ^ 64) × ((g.place < 2 ^ 64) × (head_end y.end ≤ g.place))
 fits_is y g sound is =
     let bounded = subst (λ a. IfBounded y.end a) is sound.bounded in
@@ -95,7 +95,7 @@ fits_is y g sound is =
     let live = subst (λ a. AreLive (live_areas y a)) is sound.laid.live in
     (bounded.number, (omega (arith, bounded.limit, segment.begun, segment.within), head_before y g live segment))
 
--- it is the one that lies there, which names the place behind it, and a gate that isn't open ends it
+-- it is the one that lies there, which names the offset behind it, and a gate that isn't open ends it
 pub record IsHeaded (lies_records : List Record) (first : Version) (y : Layout) (found : List Record) (version : Version) (head : ℕ) (after : List ℕ) : Type 0 where
   pub rows : lies_records ≡ found
   pub version_is : first ≡ version

@@ -62,7 +62,7 @@ passed (Err f) e is and = ap (λ x. Some x) and
 pub fault_in : (a b : JournalFault) → journal_refusal a ≡ journal_refusal b → a ≡ b
 fault_in a b is = cc is
 
--- a refusal that is none of the others is for the limit or for want of memory
+-- a refusal that is none of the others is for the limit or when out of memory
 pub limits_err : (e : StoreFault) → (e ≡ stores.Disk → ⊥) → ((place : ℕ) → e ≡ stores.Damaged place → ⊥) → (e ≡ stores.NeedsLoad → ⊥) → IsErrOf (refusal e) stores.Full ⊎ IsErrOf (refusal e) stores.NoMemory
 limits_err stores.Disk disk damaged needs = absurd (disk refl)
 limits_err (stores.Damaged place) disk damaged needs = absurd (damaged place refl)

@@ -16,7 +16,7 @@ use Rattle.ld_segment.proofs.Listed.{length-numbers_from}
 
 -- ---- one payload ----
 
--- what was read is all that was asked for, and so what stands at the places
+-- what was read is all that was asked for, and so what stands at the offsets
 pub payload_is : (at len count : ℕ) (payload bytes : List ℕ) → length payload ≡ len → len ≤ count
     → (count ≡ min (length bytes - at) len) × (take count payload ≡ take count (drop at bytes)) → payload ≡ map (byte_at bytes) (numbers_from at len)
 payload_is at len count payload bytes long enough (count_is, read) =
@@ -39,7 +39,7 @@ number_outside n at past same =
     let more : at + 1 ≡ at = sym (ap (λ b. cond b at (at + 1)) test) ∙ same in
     absurd (omega (arith, more))
 
--- places of which the last one lies past the end
+-- offsets of which the last one lies past the end
 numbers_outside : (n at k : ℕ) → 0 < k → n < at + k → map (within n) (numbers_from at k) ≡ numbers_from at k → ⊥
 numbers_outside n at zero some past same = absurd (omega (arith, some))
 numbers_outside n at (suc zero) some past same = number_outside n at past (ap first_of same)

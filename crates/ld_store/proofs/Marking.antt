@@ -45,7 +45,7 @@ module _ (bytes : List ℕ) (l : Laid) (index : Plain) (version : Version) (read
   abbrev z : Slots
   z = slots_in l
 
-  -- the bytes stand for this plain state, as they were read
+  -- the bytes represent this plain state, as they were read
   pub record StandsAs (p : Plain) : Type 0 where
     pub lies : LiesAs version y z bytes
     pub sound : IsSound y

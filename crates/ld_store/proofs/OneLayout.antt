@@ -1,4 +1,4 @@
--- What was read is how the bytes lie, where they stand for a plain state.
+-- What was read is how the bytes lie, where they represent a plain state.
 use Rattle.std.proofs.Common.{◌≡◌, ⊎_elim, ◌<◌, ◌+◌, ◌-◌, ◌^◌, ◌==◌, min, drop, ℕ, suc, Bool, List, [], ◌∷◌, ◌++◌, length, Option, Some, None, is_some, true, false, sym, ◌∙◌, ap, refl, subst, arith, append_assoc}
 use Rattle.std.proofs.lemmas.List.{append-nil}
 use Rattle.ld_journal.specs.Format.{framed, records, IsJournal, append_calls}

@@ -43,7 +43,7 @@ no_bytes bytes none p stands =
 pub empty_damaged : (place : ℕ) (bytes : List ℕ) → place ≡ 0 → bytes ≡ [] → IsDamaged place bytes
 empty_damaged place bytes first none = record { none = no_bytes bytes none; cause = inl (first, none) }
 
--- a disk that tells its bytes and reads as one of its images, all of which stand for a state, isn't damaged
+-- a disk that tells its bytes and reads as one of its images, all of which represent a state, isn't damaged
 pub none_damaged : (told : Option (List ℕ)) (image : List ℕ → Type 0) (place : ℕ) → IsSome told → ((bytes : List ℕ) → told ≡ Some bytes → image bytes)
     → ((c : List ℕ) → image c → (s : Plain) × StandsFor s c) → IfSome told (IsDamaged place) → ⊥
 none_damaged (Some bytes) image place tells reads each damaged = let stands = each bytes (reads bytes refl) in damaged.none stands.0 stands.1

@@ -1,4 +1,4 @@
--- Bytes in which something is out of place stand for no plain state.
+-- Bytes in which something is out of place represent no plain state.
 use Rattle.std.proofs.Common.{◌≡◌, inl, inr, ⊎_elim, ◌<◌, ◌≤◌, ◌+◌, ◌^◌, drop, ℕ, List, [], ◌∷◌, length, Option, None, Some, sym, ◌∙◌, ap, subst, arith}
 use Rattle.std.proofs.lemmas.List.{append-nil}
 use Rattle.ld_journal.specs.Format.{IsJournal}

@@ -9,7 +9,7 @@ use Rattle.ld_store.specs.declared.fault.StoreFault.{StoreFault}
 use Rattle.ld_store.specs.declared.fault.StoreFault.TheVariants as stores
 use Rattle.ld_store.specs.Ops.{IsMarkedOrNot}
 
--- what might have been left before, or what stands for the same plain state, of a journal of the first version that was to be marked
+-- what might have been left before, or what represents the same plain state, of a journal of the first version that was to be marked
 abbrev pub LeftOrMarked : (List ℕ → Type 0) → List ℕ → List ℕ → Type 0
 LeftOrMarked before bytes left = before left ⊎ IsMarkedOrNot bytes left
 

@@ -11,7 +11,7 @@ use Rattle.ld_store.specs.Laid.{layout_in, slots_in}
 use Rattle.ld_store.specs.declared.store.Store.{Store}
 pub use Rattle.ld_store.specs.Ops.{within}
 
--- what an index stands for on a disk of these bytes, where it tells them
+-- what an index represents on a disk of these bytes, where it tells them
 abbrev pub told_plain : Option (List ℕ) → Plain → Plain
 told_plain None index = index
 told_plain (Some bytes) index = read_plain bytes index
@@ -41,7 +41,7 @@ module _ {D : Type 0} {g : Ghosts D} where
   abbrev pub slots_of : Store D g → Slots
   slots_of store = slots_in store.laid
 
-  -- the plain state that it stands for on its disk; where the disk doesn't tell what it has, that is not known
+  -- the plain state that it represents on its disk; where the disk doesn't tell what it has, that is not known
   abbrev pub plain_of : Store D g → Plain
   plain_of store = told_plain (g.seen (disk_of store)) (index_of store)
 
@@ -58,7 +58,7 @@ module _ {D : Type 0} {g : Ghosts D} (seen : D → Option (List ℕ)) (may_leave
     pub blank : is_blank store ≡ ((layout_of store).ops == 0)
     pub works : must_load store ≡ false
 
-  -- where these bytes stand for a plain state, the store holds it, with a mark behind a journal of the first version; it is blank exactly where they have no record
+  -- where these bytes represent a plain state, the store holds it, with a mark behind a journal of the first version; it is blank exactly where they have no record
   pub record IsOpened (store : Store D g) (bytes : List ℕ) : Type 0 where
     pub holds : (p : Plain) → StandsFor p bytes → Holds store
     pub plain : (p : Plain) → StandsFor p bytes → plain_of store ≡ p

@@ -15,7 +15,7 @@ module _ {D : Type 0} (seen : D → Option (List ℕ)) (may_leave : D → List �
     pub long : len ≡ length bytes
     pub some : 0 < len
 
-  -- its bytes lie so as a journal that is written to, and stand for this plain state
+  -- its bytes lie so as a journal that is written to, and represent this plain state
   pub record HoldsAs (disk : D) (l : Laid) (index : Plain) (blank : Bool) (p : Plain) : Type 0 where
     pub now : List ℕ
     pub rests : Rests seen may_leave disk now
@@ -24,7 +24,7 @@ module _ {D : Type 0} (seen : D → Option (List ℕ)) (may_leave : D → List �
     pub plain : p ≡ read_plain now index
     pub blank_is : blank ≡ ((layout_in l index).ops == 0)
 
-  -- so it is where the bytes stood for a plain state
+  -- so it is where the bytes represented a plain state
   pub record IsOpen (disk : D) (l : Laid) (index : Plain) (blank : Bool) (bytes : List ℕ) : Type 0 where
     pub holds : (p : Plain) → StandsFor p bytes → HoldsAs disk l index blank p
 

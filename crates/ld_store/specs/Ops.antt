@@ -1,4 +1,4 @@
--- What the bytes of a node's disk stand for, where they are of the first version, and where something in them is out of place.
+-- What the bytes of a node's disk represent, where they are of the first version, and where something in them is out of place.
 use Rattle.std.specs.Prelude.{◌≡◌, ◌⊎◌, ◌<◌, ◌+◌, ◌^◌, ◌==◌, ℕ, List, [], ◌∷◌, ◌++◌, length, drop, Option, Some, None, true, nat_lt, if◌then◌else◌}
 use Rattle.ld_journal.specs.Format.{framed, records, IsJournal, IsCutShort}
 use Rattle.ld_journal.specs.Rest.{IsShut}
@@ -35,7 +35,7 @@ abbrev pub IfOpenAs : Option Segment → Slots → List ℕ → Type 0
 IfOpenAs None z bytes = Unit {0}
 IfOpenAs (Some g) z bytes = IsOpenAs z bytes
 
--- bytes lie as a journal of the first version, and stand for a plain state
+-- bytes lie as a journal of the first version, and represent a plain state
 pub record IsOfFirst (bytes : List ℕ) : Type 0 where
   pub layout : Layout
   pub slots : Slots
@@ -43,11 +43,11 @@ pub record IsOfFirst (bytes : List ℕ) : Type 0 where
   pub sound : IsSound layout
   pub slots_are : IfOpenAs layout.later slots bytes
 
--- where bytes stand for a plain state
+-- where bytes represent a plain state
 abbrev pub IfStands : (List ℕ → Type 0) → List ℕ → Type 0
 IfStands P bytes = (p : Plain) → StandsFor p bytes → P bytes
 
--- bytes stand for nothing, or are a journal of the first version, and other bytes stand for the same
+-- bytes represent nothing, or are a journal of the first version, and other bytes represent the same
 abbrev pub IsMarkedOrNot : List ℕ → List ℕ → Type 0
 IsMarkedOrNot bytes other = (p : Plain) → StandsFor p bytes → IsOfFirst bytes × StandsFor p other
 
@@ -58,11 +58,11 @@ pub record HasNoRoom (bytes : List ℕ) : Type 0 where
 
 -- ---- bytes in which something is out of place ----
 
--- a place before the end of so many bytes stays, and any other doesn't
+-- an offset before the end of so many bytes stays, and any other doesn't
 abbrev pub within : ℕ → ℕ → ℕ
 within count place = if nat_lt place count then place else place + 1
 
--- from a place on records stand, each in place behind one version, and another one behind them; then come these bytes
+-- from an offset on records stand, each in place behind one version, and another one behind them; then come these bytes
 pub record AreThere (from : ℕ) (opening : Version) (found : List Record) (version : Version) (rest bytes : List ℕ) : Type 0 where
   pub bytes_are : drop from bytes ≡ records (bodies_of found) ++ rest
   pub placed : ArePlaced opening found version
@@ -87,7 +87,7 @@ pub record IsForeign (MayStand : List ℕ → Type 0) (rest : List ℕ) : Type 0
 abbrev pub IsOff : (List ℕ → Type 0) → List ℕ → Type 0
 IsOff MayStand rest = IsCutShort rest ⊎ IsForeign MayStand rest
 
--- the body of a head, whatever place it names
+-- the body of a head, whatever offset it names
 pub record IsHead (body : List ℕ) : Type 0 where
   pub head : ℕ
   pub body_is : body ≡ head_bytes head
@@ -96,7 +96,7 @@ pub record IsHead (body : List ℕ) : Type 0 where
 abbrev pub IsBodyOrHead : Version → List ℕ → Type 0
 IsBodyOrHead version body = IsBodyOf version body ⊎ IsHead body
 
--- behind records from a place on there is, at this place, one that is cut short, or one whose body is none that may stand there
+-- behind records from an offset on there is, at this offset, one that is cut short, or one whose body is none that may stand there
 pub record IsDamagedRow (MayStand : Version → List ℕ → Type 0) (from : ℕ) (opening : Version) (place : ℕ) (bytes : List ℕ) : Type 0 where
   pub found : List Record
   pub version : Version
@@ -132,7 +132,7 @@ pub record HasPayloadPast (c : Later) (bytes : List ℕ) : Type 0 where
 abbrev pub IsNoBase : Later → List ℕ → Type 0
 IsNoBase c bytes = PassesLimit c bytes ⊎ (HasAreaPast c bytes ⊎ HasPayloadPast c bytes)
 
--- behind the Base that the slots name a record is out of place, or the segment passes the limit, or an area or a payload ends past the disk's end, which the Base's place tells
+-- behind the Base that the slots name a record is out of place, or the segment passes the limit, or an area or a payload ends past the disk's end, which the Base's offset tells
 pub record IsDamagedIn (opening : Version) (head place : ℕ) (bytes : List ℕ) : Type 0 where
   pub later : Later
   pub there : IsThere opening head later bytes
@@ -154,7 +154,7 @@ pub record IsDamagedLater (place : ℕ) (bytes : List ℕ) : Type 0 where
   pub some : 0 < length after
   pub cause : IsOffBehind version (place_behind found) head after place bytes
 
--- the bytes stand for nothing, and this is the place where that shows
+-- the bytes represent nothing, and this is the place where that shows
 pub record IsDamaged (place : ℕ) (bytes : List ℕ) : Type 0 where
   pub none : (p : Plain) → StandsFor p bytes → ⊥
   pub cause : ((place ≡ 0) × (bytes ≡ [])) ⊎ (IsDamagedRow IsBodyOrHead 0 Blank place bytes ⊎ IsDamagedLater place bytes)

@@ -61,6 +61,6 @@ pub record IsLaterRead (bytes : List ℕ) (l : Laid) (index : Plain) (version : 
 abbrev pub IsRead : List ℕ → Laid → Plain → Version → Type 0
 IsRead bytes l index version = IsFirstRead bytes l index version ⊎ IsLaterRead bytes l index version
 
--- at this place something is out of place
+-- at this offset something is out of place
 abbrev pub IsOut : ℕ → List ℕ → Type 0
 IsOut place bytes = IsDamagedRow IsBodyOrHead 0 Blank place bytes ⊎ IsDamagedLater place bytes

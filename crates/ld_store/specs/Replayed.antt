@@ -27,7 +27,7 @@ pub record IsWithRecord (w : Walk) (body : List ℕ) (index : Plain) (next : Wal
   pub next_is : next ≡ walked w next.version (length body) (op_count (found ∷ []))
   pub made_is : made ≡ applied index (placed_record (w.at + 5) found)
 
--- from a place on, behind a version and over an index, these bytes have records that lead to this index; more stands behind them
+-- from an offset on, behind a version and over an index, these bytes have records that lead to this index; more stands behind them
 pub record HasReplayed (from : ℕ) (opening : Version) (base : Plain) (bytes : List ℕ) (w : Walk) (index : Plain) : Type 0 where
   pub found : List Record
   pub rest : List ℕ
@@ -38,12 +38,12 @@ pub record HasReplayed (from : ℕ) (opening : Version) (base : Plain) (bytes : 
   pub first_is : w.first ≡ first_length found
   pub index_is : index ≡ indexed from base found
 
--- the record of a head that names this place, and more
+-- the record of a head that names this offset, and more
 pub record BeginsWithHead (head : ℕ) (rest : List ℕ) : Type 0 where
   pub begins : BeginsWith (head_bytes head) rest
   pub fits : head < 2 ^ 64
 
--- they end at a shut gate, or at a head, which names a place
+-- they end at a shut gate, or at a head, which names an offset
 abbrev pub Stops : Option ℕ → List ℕ → Type 0
 Stops None rest = IsShut rest
 Stops (Some head) rest = BeginsWithHead head rest

@@ -10,7 +10,7 @@ pub enum StoreFault {
     /// A call of the disk failed. The store has to be loaded again.
     #[error("the disk failed")]
     Disk,
-    /// The record whose gate is at this place is cut short by the disk's end, or its body is no record that may stand there.
+    /// The record whose gate is at this offset is cut short by the disk's end, or its body is no record that may stand there.
     #[error("the store is damaged")]
     Damaged(u64),
     /// The journal would pass its greatest length.

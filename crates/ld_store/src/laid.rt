@@ -9,7 +9,7 @@ ghost use Rattle.ld_store.specs.Laid.{layout_in, slots_in, placed_in, full_in};
 
 use ld_layout::{FULL_OPS, Layout, Segment};
 
-/// Where its segments lie; the place of the slot behind the head that counts and that of the other one, and whether that
+/// Where its segments lie; the offset of the slot behind the head that counts and that of the other one, and whether that
 /// one's gate is open.
 #[derive(Drop)]
 pub(crate) struct Laid {

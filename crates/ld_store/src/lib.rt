@@ -1,5 +1,5 @@
 //! A node's plain state on a disk: each op is durable before it is applied. In memory stands its index, whose payloads are
-//! the places of their bytes.
+//! the offsets of their bytes.
 #![tactic(auto)]
 
 mod fault;

@@ -25,7 +25,7 @@ fn zeros(alloc: Global, count: usize) -> Result<Vec<u8>, NoMemory>
     Ok(bytes)
 }
 
-/// The payload that stands at a place of the disk, in one read; in none where it has no byte.
+/// The payload that stands at an offset of the disk, in one read; in none where it has no byte.
 #[tactic(auto, using(ld_disk::proofs::Fine::fine_reads))]
 pub(crate) fn read_payload<D: Disk>(
     alloc: Global,
@@ -57,7 +57,7 @@ pub(crate) fn read_payload<D: Disk>(
     Ok(Payload::new(bytes))
 }
 
-/// An entry, with the payload that stands at its place of the disk.
+/// An entry, with the payload that stands at its offset of the disk.
 fn read_entry<D: Disk>(alloc: Global, disk: &mut D, pointed: &Pointed) -> Result<Entry, StoreFault>
     ensures entry { IfOk result (λ entry. IfSome (D.seen disk.old) (λ bytes. entry ≡ each_entry (byte_at bytes) pointed.now)) }
     ensures long { IfOk result (λ entry. each_entry (λ _. 0) entry ≡ each_entry (λ _. 0) pointed.now) }
@@ -82,7 +82,7 @@ fn read_entry<D: Disk>(alloc: Global, disk: &mut D, pointed: &Pointed) -> Result
     }
 }
 
-/// Entries, with the payloads that stand at their places of the disk.
+/// Entries, with the payloads that stand at their offsets of the disk.
 fn read_entries<D: Disk>(
     alloc: Global,
     disk: &mut D,
@@ -110,7 +110,7 @@ fn read_entries<D: Disk>(
     Ok(entries)
 }
 
-/// What a message says, with the payloads that stand at their places of the disk.
+/// What a message says, with the payloads that stand at their offsets of the disk.
 pub(crate) fn read_body<D: Disk>(
     alloc: Global,
     disk: &mut D,

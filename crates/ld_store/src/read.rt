@@ -36,7 +36,7 @@ pub(crate) struct Journal {
     pub(crate) version: Version,
 }
 
-/// Refuses where the gate at this place, which is the head's own, is open.
+/// Refuses where the gate at this offset, which is the head's own, is open.
 fn end_of_head<D: Disk>(alloc: Global, disk: &mut D, at: u64, len: u64) -> Result<(), StoreFault>
     ensures shut { OnOk result ((front rest : List ℕ) → IsParted D.seen disk.old at front rest → IsShut rest) }
     ensures damaged { (place : ℕ) → IsErrOf result (StoreFault.Damaged place) → (front rest : List ℕ)
@@ -58,7 +58,7 @@ fn end_of_head<D: Disk>(alloc: Global, disk: &mut D, at: u64, len: u64) -> Resul
     }
 }
 
-/// The segment of a Base at this place, which ends at a gate, with the records behind it; none where it would pass the
+/// The segment of a Base at this offset, which ends at a gate, with the records behind it; none where it would pass the
 /// limit.
 fn segment_behind(
     place: u64,
@@ -88,7 +88,7 @@ fn segment_behind(
 }
 
 /// Reads what the head that stands behind the records of the first segment, which were replayed, names: slots at this
-/// place, whether they stand right behind it or not.
+/// offset, whether they stand right behind it or not.
 fn read_behind<D: Disk>(
     alloc: Global,
     disk: &mut D,

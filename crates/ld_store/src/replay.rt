@@ -43,11 +43,11 @@ pub(crate) enum Next {
     Record(Walk),
     /// A gate that ends them.
     End,
-    /// A head, which names this place.
+    /// A head, which names this offset.
     Head(u64),
 }
 
-/// The record at a place of a journal of some version so far, and the version with it.
+/// The record at an offset of a journal of some version so far, and the version with it.
 fn decoded(
     alloc: Global,
     body: &[u8],
@@ -68,7 +68,7 @@ fn decoded(
     }
 }
 
-/// Applies an op, whose body stands from this place of the disk on.
+/// Applies an op, whose body stands from this offset of the disk on.
 #[tactic(auto, using(crate::proofs::Formats::op_rises))]
 fn apply_op(alloc: Global, index: &mut Plain, op: Op, at: u64) -> Result<(), NoMemory>
     requires op { IsOp op }
@@ -80,7 +80,7 @@ fn apply_op(alloc: Global, index: &mut Plain, op: Op, at: u64) -> Result<(), NoM
     Ok(())
 }
 
-/// Does what a record makes of the index; its body stands from this place of the disk on.
+/// Does what a record makes of the index; its body stands from this offset of the disk on.
 #[tactic(auto, using(crate::proofs::Placing::older_longer))]
 fn apply_record(alloc: Global, index: &mut Plain, found: Record, at: u64) -> Result<(), NoMemory>
     requires record { IsRecord found }
@@ -107,7 +107,7 @@ fn ops_in(found: &Record) -> u64
 }
 
 impl Walk {
-    /// Before the first record, whose gate is at this place.
+    /// Before the first record, whose gate is at this offset.
     pub(crate) fn from(version: Version, at: u64) -> Walk
         ensures { result ≡ record { version = version; at = at; ops = 0; first = 0 } }
     {
@@ -160,7 +160,7 @@ fn replay_body(
     Ok(walk.with_record(version, body.len() as u64, ops))
 }
 
-/// The place that a head's body names; none where the body is no head's.
+/// The offset that a head's body names; none where the body is no head's.
 fn head_in(body: &[u8]) -> Option<u64>
     ensures head { IfSome result (λ place. (body.now ≡ head_bytes place) × (place < 2 ^ 64)) }
     ensures other { IfNone result (IsHead body.now → ⊥) }
@@ -220,8 +220,8 @@ fn replay_next<D: Disk>(
     }
 }
 
-/// Replays the records of a segment from a place on, on a disk of so many bytes, and says how far that goes, and which
-/// place a head names that stands there.
+/// Replays the records of a segment from an offset on, on a disk of so many bytes, and says how far that goes, and which
+/// offset a head names that stands there.
 pub(crate) fn replay<D: Disk>(
     alloc: Global,
     disk: &mut D,

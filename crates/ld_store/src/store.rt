@@ -52,14 +52,14 @@ impl<D: Disk> Store<D> {
     /// Opens the store on a disk, in one writing call: its records are replayed in one walk, or those behind the Base of
     /// its current segment, where there is a later one. A journal of the first version is then marked as one of the
     /// second, in four writing calls more, or in ten or eleven where its segment is full; that leaves the plain state as
-    /// it is. Where areas of a Base share bytes, or don't hold its payloads, or the head names another place than the one
-    /// behind it, it is read as it stands, the slots at the place that is named, and nothing is promised of it.
+    /// it is. Where areas of a Base share bytes, or don't hold its payloads, or the head names another offset than the one
+    /// behind it, it is read as it stands, the slots at the offset that is named, and nothing is promised of it.
     ///
     /// A refusal hands the disk back: `Disk` where a call of it failed; `Damaged(place)` where the record whose gate is
-    /// at that place is cut short, or its body is none that may stand there (the first is a format, and no other is; a
+    /// at that offset is cut short, or its body is none that may stand there (the first is a format, and no other is; a
     /// mark stands in a journal of the first version only, and once; of the ops that the versions write in two ways each
-    /// stands in its own), where the gate at that place, behind the head, is open, where none of the slots at that place
-    /// counts, or they pass 2^40 bytes, or the disk ends within the one there, where no Base stands at that place that they
+    /// stands in its own), where the gate at that offset, behind the head, is open, where none of the slots at that offset
+    /// counts, or they pass 2^40 bytes, or the disk ends within the one there, where no Base stands at that offset that they
     /// name, or its segment passes 2^40 bytes, or an older area of it ends past the disk's end, or a payload does that no
     /// record behind it drops, or the disk has no byte at all; `Full` where a mark, or the segment that it needs, would pass
     /// 2^40 bytes; and `NoMemory`.
@@ -71,14 +71,14 @@ impl<D: Disk> Store<D> {
         ensures steady { MatchResult result (λ store. D.faults (disk_of store) ≡ D.faults disk) (λ e. (e.1 ≡ StoreFault.Disk) ⊎ (D.faults e.0 ≡ D.faults disk)) }
 
         // A crash at any moment leaves what a crash before the call might have left, or, of a journal of the first
-        // version, what stands for the same plain state.
+        // version, what represents the same plain state.
         ensures any_moment { IfSome (D.seen disk) (λ bytes. MatchResult result (λ store. LeavesOnly D.moment D.left_since disk (disk_of store) (LeftOrMarked (D.may_leave disk) bytes))
             (λ e. LeavesOnly D.moment D.left_since disk e.0 (LeftOrMarked (D.may_leave disk) bytes))) }
 
         // Another refusal than `Disk` leaves only what might have been left.
         ensures reads { IfErr result (λ e. (e.1 ≡ StoreFault.Disk) ⊎ LeavesOnly D.moment D.left_since disk e.0 (D.may_leave disk)) }
 
-        // Where the disk tells what each call will do, no read of it fails, and its bytes stand for a plain state and
+        // Where the disk tells what each call will do, no read of it fails, and its bytes represent a plain state and
         // aren't of the first version, it is one writing call.
         ensures exact { (p : DiskPlain) (state : State) → D.plain disk ≡ Some p → reads_fine p ≡ true → StandsFor state p.state.bytes → ¬ IsOfFirst p.state.bytes
             → MatchResult result (λ store. (D.plain (disk_of store) ≡ Some (after_call None p)) × (succeeds p ≡ true))
@@ -176,7 +176,7 @@ impl<D: Disk> Store<D> {
         ensures images { Holds D.seen D.may_leave self.old
             → OnOk result ((c : List ℕ) → D.may_leave (disk_of self.new) c → StandsFor (plain_of self.new) c) }
 
-        // A crash at any moment of the call leaves what stands for the plain state before it or for that with the op.
+        // A crash at any moment of the call leaves what represents the plain state before it or for that with the op.
         ensures any_moment { Holds D.seen D.may_leave self.old
             → LeavesOnly D.moment D.left_since (disk_of self.old) (disk_of self.new) (StandsForEither (plain_of self.old) (apply (plain_of self.old) op)) }
 
@@ -238,7 +238,7 @@ impl<D: Disk> Store<D> {
     /// The message that a draft is: each of its payloads is read from the disk.
     ///
     /// It refuses with `Disk` where a read failed, and until the next load each call answers `NeedsLoad`; with
-    /// `Damaged(place)` where the disk ends before the payload that stands at that place does, which can't be where it
+    /// `Damaged(place)` where the disk ends before the payload that stands at that offset does, which can't be where it
     /// tells what it has and the draft is one of this store's index; and with `NoMemory`. It changes nothing else.
     pub fn fill(&mut self, alloc: Global, draft: Draft) -> Result<Msg, StoreFault>
         ensures filled { IfOk result (λ m. IfSome (D.seen (disk_of self.old)) (λ bytes. m ≡ each_msg (byte_at bytes) draft)) }
@@ -278,7 +278,7 @@ impl<D: Disk> Store<D> {
         }
     }
 
-    /// Whether this payload stands at a place of the disk.
+    /// Whether this payload stands at an offset of the disk.
     ///
     /// It refuses as `fill` does, with the place itself where the disk ends before the payload there does.
     pub fn has_payload(
@@ -333,7 +333,7 @@ impl<D: Disk> Store<D> {
         ensures images { Holds D.seen D.may_leave self.old
             → OnOk result ((c : List ℕ) → D.may_leave (disk_of self.new) c → StandsFor (plain_of self.new) c) }
 
-        // A crash at any moment of the call leaves what stands for the plain state before it or for that with the op.
+        // A crash at any moment of the call leaves what represents the plain state before it or for that with the op.
         ensures any_moment { Holds D.seen D.may_leave self.old
             → LeavesOnly D.moment D.left_since (disk_of self.old) (disk_of self.new) (StandsForEither (plain_of self.old) (apply (plain_of self.old) (kinds.Format generation epochs))) }
 

@@ -20,12 +20,12 @@ abbrev pub look_end : ReaderFault → Ended
 look_end (readers.Register fault) = register_end fault
 look_end readers.NoMemory = ends.NoMemory
 
--- for want of memory, where no other cause is kept
+-- when out of memory, where no other cause is kept
 abbrev pub why_of : Option Ended → Ended
 why_of None = ends.NoMemory
 why_of (Some end) = end
 
--- a look failed, as the register's counts of faults before and now say, or the register is damaged from that place on, or there is no memory left
+-- a look failed, as the register's counts of faults before and now say, or the register is damaged from that offset on, or there is no memory left
 abbrev pub IsLookEnd : (ℕ → Type 0) → ℕ → ℕ → Ended → Type 0
 IsLookEnd damaged before now (ends.Register refusal) = IsRefusal damaged ⊥ before now refusal
 IsLookEnd damaged before now ends.NoMemory = Unit {0}

@@ -27,7 +27,7 @@ pub(crate) fn look_end(fault: &ReaderFault) -> Ended
     }
 }
 
-/// Why a reader can't go on: for want of memory, where no other cause is kept.
+/// Why a reader can't go on: when out of memory, where no other cause is kept.
 pub(crate) fn why_of(end: Option<Ended>) -> Ended
     ensures { result ≡ why_of end }
 {

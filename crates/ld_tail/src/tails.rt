@@ -105,7 +105,7 @@ fn end_of(driven: Result<bool, Ended>, why: Ended) -> Ended
 /// such node; for a number of an epoch that isn't closed it is one look for each such answer.
 ///
 /// It ends with `Done` where the reader is past its last number, with `Rounds` where all rounds were taken and it isn't, with
-/// `BadFrame` where what a node sent begins no frame, with `Write` where the output failed, and for want of memory. It ends
+/// `BadFrame` where what a node sent begins no frame, with `Write` where the output failed, and when out of memory. It ends
 /// with `Register` where a look at the register failed, and no line says so: with `Damaged` and a place where its bytes are
 /// no journal from there on, and else with `Failed`, only where its count of faults rose.
 pub fn tail<G: Register, N: Nodes, O: Sink>(
@@ -123,7 +123,7 @@ pub fn tail<G: Register, N: Nodes, O: Sink>(
 ) -> (Ended, G)
     requires { IsInBounds config.now }
     // Where the nodes and the register tell what stands there: all that was done are steps of the written machine from any state
-    // without readers that they stand for: the reader is opened, and then round by round it polls, where it reads one copy only
+    // without readers that they represent: the reader is opened, and then round by round it polls, where it reads one copy only
     // if no message that is new waits for a node, and the configuration's nodes are visited one after the other. The lines that
     // were written are the reader's lines of those steps. A message to a node is lost only where a call of the nodes failed or
     // a node had ended, and an answer only where the reader doesn't take it. A node may be ticked for the log in its visit,

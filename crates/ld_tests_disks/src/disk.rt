@@ -4,7 +4,7 @@ use ld_io::NoMemory;
 use std::alloc::Global;
 use std::test::Fail;
 
-/// What is read of the first four bytes after a write of 1, 2, 3 at place 1 that crashes with this picture, and how many they are.
+/// What is read of the first four bytes after a write of 1, 2, 3 at offset 1 that crashes with this picture, and how many they are.
 fn left_by(alloc: Global, picture: Picture) -> Result<([u8; 4], usize), NoMemory> {
     let mut disk = MemDisk::new(alloc)?;
     disk.reserve(4, 1)?;

@@ -9,7 +9,7 @@ use ld_op::{OpFault, Plain};
 use std::alloc::Global;
 use std::test::Fail;
 
-// An index of log 1, where at e1n2 stands a record of two bytes from place 300 on and at e1n3 a hole, and two areas.
+// An index of log 1, where at e1n2 stands a record of two bytes from offset 300 on and at e1n3 a hole, and two areas.
 const BASE: &[u8] = &[
     13, // kind
     0, 0, 0, 1, 0, 1, // generation, logs
@@ -40,7 +40,7 @@ fn is_same_again(alloc: Global, bytes: &[u8]) -> bool {
     }
 }
 
-// Whether the bytes are refused at the place.
+// Whether the bytes are refused at the offset.
 fn is_off_at(alloc: Global, place: u64, bytes: &[u8]) -> bool {
     match decode_base(alloc, bytes) {
         Ok(_) => false,
@@ -48,7 +48,7 @@ fn is_off_at(alloc: Global, place: u64, bytes: &[u8]) -> bool {
     }
 }
 
-// The place, the ending gate, the place behind the area and the number of a segment, and zeros where there is none.
+// The offset, the ending gate, the offset behind the area and the number of a segment, and zeros where there is none.
 fn told(found: Result<Option<Segment>, NoMemory>) -> [u64; 4] {
     match found {
         Ok(Some(next)) => [next.place, next.end, next.limit, next.number],
@@ -56,7 +56,7 @@ fn told(found: Result<Option<Segment>, NoMemory>) -> [u64; 4] {
     }
 }
 
-// What is told of the segment behind a full first one that ends at place 1000, for a record of so many bytes.
+// What is told of the segment behind a full first one that ends at offset 1000, for a record of so many bytes.
 fn second(alloc: Global, cause: u32) -> [u64; 4] {
     let layout = Layout {
         ops: 64,
@@ -66,7 +66,7 @@ fn second(alloc: Global, cause: u32) -> [u64; 4] {
     told(layout.new_segment(alloc, &Plain::new(alloc), u64::from(cause)))
 }
 
-// What is told of the segment behind a full one from a place on, where the first one ends at place 1000.
+// What is told of the segment behind a full one from an offset on, where the first one ends at offset 1000.
 fn behind(alloc: Global, place: u32, limit: u64) -> [u64; 4] {
     let place = u64::from(place);
     let layout = Layout {

@@ -21,11 +21,11 @@ const OLDER_LATE_FORMAT: &[u8] = &[1, 0, 0, 0, 2, 1, 0, 0, 0, 1, 0, 0, 0, 3];
 const RECORD: &[u8] = &[
     2, 0, 0, 0, 1, 0, 0, 0, 0, 0, 0, 0, 1, 0, 0, 0, 1, 0, 0, 0, 1, 0, 0, 2, 104, 105,
 ];
-// A hole at e1n2, by the sequencer of epoch 2, with the greatest last known good place.
+// A hole at e1n2, by the sequencer of epoch 2, with the greatest last known good offset.
 const HOLE: &[u8] = &[
     2, 0, 0, 0, 1, 255, 255, 255, 254, 0, 0, 0, 1, 0, 0, 0, 2, 0, 0, 0, 2, 1,
 ];
-// A bridge at the last place of epoch 1.
+// A bridge at the last offset of epoch 1.
 const BRIDGE: &[u8] = &[
     2, 0, 0, 0, 1, 0, 0, 0, 0, 0, 0, 0, 1, 255, 255, 255, 255, 0, 0, 0, 2, 2,
 ];
@@ -105,7 +105,7 @@ fn after(alloc: Global, version: Version, bytes: &[u8]) -> u8 {
     }
 }
 
-// Whether the bytes are refused at the place.
+// Whether the bytes are refused at the offset.
 pub(crate) fn is_off_at(alloc: Global, place: u64, bytes: &[u8]) -> bool {
     match Record::decode(alloc, bytes) {
         Ok(_) => false,

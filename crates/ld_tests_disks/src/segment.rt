@@ -91,7 +91,7 @@ fn switch_again(alloc: Global, disk: &mut MemDisk) -> Result<(), JournalFault> {
     write(alloc, disk, &layout, 32, false, 13)
 }
 
-// What is read behind the head: the place of the slot that counts, 1 where the other one is open, the number and the place of
+// What is read behind the head: the offset of the slot that counts, 1 where the other one is open, the number and the offset of
 // the segment, and the gate behind its Base.
 fn read_behind(alloc: Global, disk: &mut MemDisk) -> Result<[u64; 5], JournalFault> {
     let len = disk.len()?;

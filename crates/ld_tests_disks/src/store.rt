@@ -75,7 +75,7 @@ pub(crate) fn keep<D: Disk>(alloc: Global, store: &mut Store<D>, op: Op) -> Resu
     store.apply(alloc, op)
 }
 
-/// The op of a store under a place of epoch 1.
+/// The op of a store under an offset of epoch 1.
 pub(crate) fn accept(alloc: Global, log: LogId, esn: u32) -> Result<Op, NoMemory>
     requires { (1 ≤ esn) × (esn < 2 ^ 32 - 1) }
     ensures { IfOk result (λ op. IsOp op × (is_format op ≡ false)) }
@@ -93,7 +93,7 @@ pub(crate) fn accept(alloc: Global, log: LogId, esn: u32) -> Result<Op, NoMemory
     })
 }
 
-/// What is looked at of a plain state: of one log, its place 1 and its epoch 1.
+/// What is looked at of a plain state: of one log, its offset 1 and its epoch 1.
 #[derive(Clone, Copy, Debug, PartialEq, Eq)]
 struct Seen {
     generation: u32,
@@ -300,7 +300,7 @@ pub(crate) fn fill<D: Disk>(
     Ok(())
 }
 
-/// Whether a store holds an entry at the place.
+/// Whether a store holds an entry at the offset.
 pub(crate) fn has<D: Disk>(store: &Store<D>, esn: u32) -> Result<bool, StoreFault> {
     let log = first_log()?;
     Ok(store.index().entry(log, Lsn::new(1, esn)).is_some())

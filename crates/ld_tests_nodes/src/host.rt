@@ -63,7 +63,7 @@ fn to_node(from: Who, body: Body) -> Result<Msg, NoMemory>
     })
 }
 
-/// What the sequencer of epoch 1 has stored at place 1.
+/// What the sequencer of epoch 1 has stored at offset 1.
 fn store(alloc: Global) -> Result<Msg, NoMemory>
     ensures { IfOk result IsMessage }
 {

@@ -28,7 +28,7 @@ fn to_node(from: Who, body: Body) -> Result<Msg, NoMemory>
     })
 }
 
-/// What the sequencer of epoch 1 has stored at its first place: this byte.
+/// What the sequencer of epoch 1 has stored at its first offset: this byte.
 fn store(alloc: Global, byte: u8) -> Result<Msg, NoMemory>
     ensures { IfOk result IsMessage }
 {
@@ -44,7 +44,7 @@ fn store(alloc: Global, byte: u8) -> Result<Msg, NoMemory>
     )
 }
 
-/// What the sequencer of epoch 1 has stored at its second place, where all up to the first one is known good.
+/// What the sequencer of epoch 1 has stored at its second offset, where all up to the first one is known good.
 fn second_store(alloc: Global) -> Result<Msg, NoMemory>
     ensures { IfOk result IsMessage }
 {
@@ -72,7 +72,7 @@ fn digest_ask() -> Result<Msg, NoMemory>
     )
 }
 
-/// What a node answers: a page with how many entries, and up to which place all is known good.
+/// What a node answers: a page with how many entries, and up to which offset all is known good.
 #[derive(Clone, Copy, Debug, PartialEq, Eq)]
 pub(crate) enum Answer {
     Stored,

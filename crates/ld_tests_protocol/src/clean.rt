@@ -23,7 +23,7 @@ fn closes(plain: &Plain, log: LogId, epoch: u32) -> u32 {
     }
 }
 
-// The place of epoch 1 to which a trim is kept, 0 where none is.
+// The offset of epoch 1 to which a trim is kept, 0 where none is.
 fn trims(plain: &Plain, log: LogId, esn: u32) -> u32 {
     match &trim(plain, log, Lsn::new(1, esn)) {
         Some(Op::Trim { trim, .. }) => trim.esn(),
@@ -31,8 +31,8 @@ fn trims(plain: &Plain, log: LogId, esn: u32) -> u32 {
     }
 }
 
-// What is kept of a close of epoch 1 and of a trim to its place 3, at first and once both are kept; then of a close of epoch 2, and
-// of a trim to the place 4.
+// What is kept of a close of epoch 1 and of a trim to its offset 3, at first and once both are kept; then of a close of epoch 2, and
+// of a trim to the offset 4.
 fn kept(alloc: Global, log: LogId) -> Result<[u32; 6], NoMemory> {
     let mut plain = Plain::new(alloc);
     let first = (closes(&plain, log, 1), trims(&plain, log, 3));

@@ -7,7 +7,7 @@ use ld_msg::Entries;
 use std::alloc::Global;
 use std::test::Fail;
 
-// The greatest place of an epoch.
+// The greatest offset of an epoch.
 const LAST: u32 = 4_294_967_295;
 
 // Nothing is told of epoch 1 of a log of five nodes, with each record on three of them.
@@ -21,7 +21,7 @@ fn nothing_told(alloc: Global, log: LogId) -> Result<Digest, NoMemory> {
     Digest::new(alloc, &spec, 1)
 }
 
-// What a node's page without entries leads to, from a place of epoch 1 up to another, with a last known good place: the place to
+// What a node's page without entries leads to, from an offset of epoch 1 up to another, with a last known good offset: the offset to
 // ask on from, 1 where the node is whole, 0 where the page is ignored.
 fn adds(
     alloc: Global,

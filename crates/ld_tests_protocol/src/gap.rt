@@ -67,7 +67,7 @@ fn lost() -> Body {
     }
 }
 
-// The trim of a round up to a place of epoch 1.
+// The trim of a round up to an offset of epoch 1.
 fn trimmed(round: u32, esn: u32) -> Body {
     Body::ReadTrim {
         round,
@@ -77,7 +77,7 @@ fn trimmed(round: u32, esn: u32) -> Body {
 }
 
 // The answer that has this letter where no other is held, and these besides: `w` for a record withheld, `e` for a clean page without
-// entries, `u` for one that isn't clean, `x` for a lost epoch, and a trim to the place 0 in round 2 for `0`, to the place 1 in
+// entries, `u` for one that isn't clean, `x` for a lost epoch, and a trim to the offset 0 in round 2 for `0`, to the offset 1 in
 // round 1 for `1` and in round 2 for `2`.
 fn answer(alloc: Global, letter: u8) -> Result<Body, NoMemory> {
     match letter {

@@ -11,7 +11,7 @@ use ld_msg::{Entry, Summary, What};
 use ld_op::{Op, Plain};
 use std::alloc::Global;
 
-/// An op, which stands from a place of the disk on.
+/// An op, which stands from an offset of the disk on.
 pub fn keep(alloc: Global, plain: &mut Plain, op: Op, at: u32) -> Result<(), NoMemory>
     requires rises { IsRising op }
     requires fits { at + op_length op < 2 ^ 64 }
@@ -21,7 +21,7 @@ pub fn keep(alloc: Global, plain: &mut Plain, op: Op, at: u32) -> Result<(), NoM
     Ok(())
 }
 
-/// Anything at a place of epoch 1, of ballot 2, whose op stands from a place of the disk on.
+/// Anything at an offset of epoch 1, of ballot 2, whose op stands from an offset of the disk on.
 pub fn keep_entry(
     alloc: Global,
     plain: &mut Plain,
@@ -40,7 +40,7 @@ pub fn keep_entry(
     keep(alloc, plain, Op::Accept { log, lng: 0, entry }, at)
 }
 
-/// An epoch is closed under ballot 2, without a trim, with its bridge at a place and with or without a loss behind it.
+/// An epoch is closed under ballot 2, without a trim, with its bridge at an offset and with or without a loss behind it.
 pub fn keep_close(
     alloc: Global,
     plain: &mut Plain,
@@ -68,7 +68,7 @@ pub fn keep_close(
     )
 }
 
-/// All up to a place of epoch 1 is trimmed.
+/// All up to an offset of epoch 1 is trimmed.
 pub fn keep_trim(alloc: Global, plain: &mut Plain, log: LogId, esn: u32) -> Result<(), NoMemory> {
     let trim = Lsn::new(1, esn);
     keep(alloc, plain, Op::Trim { log, trim }, 0)

@@ -11,7 +11,7 @@ use ld_plan::plan;
 use std::alloc::Global;
 use std::test::Fail;
 
-// The greatest place of an epoch.
+// The greatest offset of an epoch.
 const LAST: u32 = 4_294_967_295;
 
 // Nothing is told of epoch 1 of a log on three nodes, with each record on two of them.
@@ -25,7 +25,7 @@ fn nothing_told(alloc: Global, log: LogId) -> Result<Digest, NoMemory> {
     Digest::new(alloc, &spec, 1)
 }
 
-// Records of epoch 1: the place, the ballot, and the payload's one byte of each.
+// Records of epoch 1: the offset, the ballot, and the payload's one byte of each.
 fn records(alloc: Global, list: &[(u32, u32, u8)]) -> Result<Entries, NoMemory>
     ensures { IfOk result (λ entries. AreInPlace entries) }
 {
@@ -43,7 +43,7 @@ fn records(alloc: Global, list: &[(u32, u32, u8)]) -> Result<Entries, NoMemory>
     Ok(entries)
 }
 
-// A node tells all that it has: a trim to a place of epoch 1, a last known good place, and records.
+// A node tells all that it has: a trim to an offset of epoch 1, a last known good offset, and records.
 fn tells(
     alloc: Global,
     digest: &mut Digest,
@@ -66,7 +66,7 @@ fn tells(
     Ok(())
 }
 
-// What the plan has at each of its places, one number each: a record's first byte, 100 for a hole, 101 for a bridge, 102 for
+// What the plan has at each of its offsets, one number each: a record's first byte, 100 for a hole, 101 for a bridge, 102 for
 // a plug. Nothing, where a node is left that may still tell.
 fn planned(alloc: Global, digest: &Digest) -> Result<Vec<u8>, NoMemory> {
     let mut all = Vec::new(alloc);
@@ -88,7 +88,7 @@ fn planned(alloc: Global, digest: &Digest) -> Result<Vec<u8>, NoMemory> {
     Ok(all)
 }
 
-// The plan of what the first node tells, a last known good place and records, and of what the second one tells, a trim and records.
+// The plan of what the first node tells, a last known good offset and records, and of what the second one tells, a trim and records.
 fn plan_of_two(
     alloc: Global,
     log: LogId,

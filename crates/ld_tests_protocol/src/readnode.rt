@@ -11,10 +11,10 @@ use ld_readnode::{answer, answer_one, digest};
 use std::alloc::Global;
 use std::test::Fail;
 
-// The greatest place of an epoch.
+// The greatest offset of an epoch.
 const LAST: u32 = 4_294_967_295;
 
-// A node that keeps records at the first places of epoch 1.
+// A node that keeps records at the first offsets of epoch 1.
 fn filled(alloc: Global, log: LogId, places: u32) -> Result<Plain, NoMemory> {
     let mut plain = Plain::new(alloc);
     for esn in 1..=places {
@@ -24,7 +24,7 @@ fn filled(alloc: Global, log: LogId, places: u32) -> Result<Plain, NoMemory> {
     Ok(plain)
 }
 
-// What a draft says: one letter, the place of epoch 1 that it names, and how many entries it gives.
+// What a draft says: one letter, the offset of epoch 1 that it names, and how many entries it gives.
 fn shown(body: &DraftBody) -> (u8, u32, usize) {
     match body.said() {
         Said::Page {
@@ -53,7 +53,7 @@ fn shown_whole(body: &Body) -> (u8, u32, usize) {
     }
 }
 
-// What the node says to a reader that asks from a place of epoch 1, where all up to another place of it is released.
+// What the node says to a reader that asks from an offset of epoch 1, where all up to another offset of it is released.
 fn reads(
     alloc: Global,
     plain: &Plain,
@@ -75,7 +75,7 @@ fn reads(
     Ok(shown(reply.body()))
 }
 
-// What the node says to a sequencer that asks for its digest from a place of epoch 1.
+// What the node says to a sequencer that asks for its digest from an offset of epoch 1.
 fn tells(
     alloc: Global,
     plain: &Plain,
@@ -99,7 +99,7 @@ fn is_record(entry: &&Pointed) -> bool {
     entry.place().is_some()
 }
 
-// How many payloads are in the page that a node gives to a reader of one copy of two from the first place of epoch 1 on, where the
+// How many payloads are in the page that a node gives to a reader of one copy of two from the first offset of epoch 1 on, where the
 // nodes from 1 up to another are excluded.
 fn payloads(
     alloc: Global,
@@ -145,7 +145,7 @@ fn each_payload_comes_from_one_node(rt: HostRuntime) -> Result<(), Fail> {
     Ok(())
 }
 
-// What the node says to readers, given by the place that is released and the one that is asked from.
+// What the node says to readers, given by the offset that is released and the one that is asked from.
 fn reads_each(
     alloc: Global,
     plain: &Plain,
@@ -194,7 +194,7 @@ fn an_open_epoch_is_served_as_far_as_it_is_released_in_pages_of_64(
     Ok(())
 }
 
-// The digest of a node with 65 records, asked for from the places 1 and 65.
+// The digest of a node with 65 records, asked for from the offsets 1 and 65.
 fn digests(alloc: Global, log: LogId, node: NodeId) -> Result<[(u8, u32, usize); 2], NoMemory> {
     let plain = filled(alloc, log, 65)?;
     Ok([
@@ -211,7 +211,7 @@ fn a_digest_comes_in_pages_of_64(rt: HostRuntime) -> Result<(), Fail> {
     Ok(())
 }
 
-// What a node says to readers that closed the epoch at the place 5 and trimmed it up to 2 of 3 records.
+// What a node says to readers that closed the epoch at the offset 5 and trimmed it up to 2 of 3 records.
 fn closed(alloc: Global, log: LogId, node: NodeId) -> Result<[(u8, u32, usize); 3], NoMemory> {
     let mut plain = filled(alloc, log, 3)?;
     keep_trim(alloc, &mut plain, log, 2)?;

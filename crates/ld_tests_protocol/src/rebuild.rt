@@ -72,7 +72,7 @@ fn answer(log: LogId, from: NodeId, to: NodeId, body: Body) -> Msg {
     }
 }
 
-// A page of the places 1 to 9 of epoch 1 with a record at the place 1.
+// A page of the offsets 1 to 9 of epoch 1 with a record at the offset 1.
 fn page(alloc: Global, clean: bool) -> Result<Body, NoMemory> {
     page_of(alloc, clean, What::Rec(Payload::new(Vec::new(alloc))))
 }
@@ -94,7 +94,7 @@ fn page_of(alloc: Global, clean: bool, what: What) -> Result<Body, NoMemory> {
     })
 }
 
-// A trim to the place 1 of epoch 1.
+// A trim to the offset 1 of epoch 1.
 fn trimmed() -> Body {
     Body::ReadTrim {
         round: 0,
@@ -166,7 +166,7 @@ fn is_short(what: &What) -> bool
     }
 }
 
-// The node trims all up to the place 1 of epoch 1.
+// The node trims all up to the offset 1 of epoch 1.
 fn keep_trim(alloc: Global, plain: &mut Plain, log: LogId) -> Result<(), NoMemory> {
     let trim = Lsn::new(1, 1);
     keep(alloc, plain, Op::Trim { log, trim })

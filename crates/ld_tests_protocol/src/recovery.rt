@@ -12,7 +12,7 @@ use ld_recovery::{Answer, Recovery, State};
 use std::alloc::Global;
 use std::test::Fail;
 
-// The greatest place of an epoch.
+// The greatest offset of an epoch.
 const LAST: u32 = 4_294_967_295;
 
 // The log.
@@ -27,7 +27,7 @@ fn three_nodes(log: LogId) -> Spec
     }
 }
 
-// A node stored what has this place.
+// A node stored what has this offset.
 fn stored(esn: u32) -> Body
     ensures { IsReplyTo 2 result }
 {
@@ -36,7 +36,7 @@ fn stored(esn: u32) -> Body
     }
 }
 
-// A node trimmed all up to this place.
+// A node trimmed all up to this offset.
 fn trimmed(esn: u32) -> Body
     ensures { IsReplyTo 2 result }
 {
@@ -93,7 +93,7 @@ fn clean(epoch: u32, ballot: u32) -> Body
     }
 }
 
-// A node has nothing from a place up to another.
+// A node has nothing from an offset up to another.
 fn nothing(alloc: Global, from: u32, upto: u32) -> Body
     requires one { 1 ≤ from }
     requires range { from ≤ upto }
@@ -108,8 +108,8 @@ fn nothing(alloc: Global, from: u32, upto: u32) -> Body
     }
 }
 
-// The body of a reply: `n` where the node has nothing of the epoch, `s` where it stored the bridge at the place 1, `t` where it trimmed
-// all up to the place 1, a digit where it is sealed by that epoch, `l` where it lost the epoch, `c` where the epoch is clean there,
+// The body of a reply: `n` where the node has nothing of the epoch, `s` where it stored the bridge at the offset 1, `t` where it trimmed
+// all up to the offset 1, a digit where it is sealed by that epoch, `l` where it lost the epoch, `c` where the epoch is clean there,
 // and `o` where the epoch of the recovery's own sequencer is.
 fn body(alloc: Global, reply: u8) -> Body
     ensures { IsReplyTo 2 result }

@@ -25,7 +25,7 @@ fn letter(decision: Decision) -> u8 {
     }
 }
 
-// What the node makes of a hole at a place of epoch 1 from the sequencer of the epoch `ballot`.
+// What the node makes of a hole at an offset of epoch 1 from the sequencer of the epoch `ballot`.
 fn stores(plain: &Plain, log: LogId, node: NodeId, ballot: u32, esn: u32) -> u8 {
     stores_what(plain, log, node, ballot, esn, What::Hole)
 }
@@ -70,7 +70,7 @@ fn asks(plain: &Plain, log: LogId, node: NodeId, ballot: u32) -> u8 {
     letter(on_digest(plain, &msg))
 }
 
-// The node keeps a hole at the place 4 of epoch 1, of ballot 2.
+// The node keeps a hole at the offset 4 of epoch 1, of ballot 2.
 fn keep_hole(alloc: Global, plain: &mut Plain, log: LogId) -> Result<(), NoMemory> {
     keep_what(alloc, plain, log, What::Hole)
 }
@@ -82,7 +82,7 @@ fn keep_what(alloc: Global, plain: &mut Plain, log: LogId, what: What) -> Result
     keep_at(alloc, plain, log, what, 0)
 }
 
-// The node keeps a record there, whose op stands from a place of the disk on.
+// The node keeps a record there, whose op stands from an offset of the disk on.
 fn keep_record(
     alloc: Global,
     plain: &mut Plain,
@@ -96,7 +96,7 @@ fn keep_record(
     keep_at(alloc, plain, log, what, at)
 }
 
-// The node keeps anything there, whose op stands from a place of the disk on.
+// The node keeps anything there, whose op stands from an offset of the disk on.
 fn keep_at(
     alloc: Global,
     plain: &mut Plain,
@@ -125,7 +125,7 @@ fn keep_seal(alloc: Global, plain: &mut Plain, log: LogId) -> Result<(), NoMemor
     Ok(())
 }
 
-// The node trims all up to the place 3 of epoch 1.
+// The node trims all up to the offset 3 of epoch 1.
 fn keep_trim(alloc: Global, plain: &mut Plain, log: LogId) -> Result<(), NoMemory> {
     let trim = Lsn::new(1, 3);
     let op = Op::Trim { log, trim };
@@ -134,7 +134,7 @@ fn keep_trim(alloc: Global, plain: &mut Plain, log: LogId) -> Result<(), NoMemor
     Ok(())
 }
 
-// Epoch 1 is clean on the node, with its bridge at the place 5.
+// Epoch 1 is clean on the node, with its bridge at the offset 5.
 fn keep_close(alloc: Global, plain: &mut Plain, log: LogId) -> Result<(), NoMemory> {
     let summary = Summary {
         ballot: 2,
@@ -153,7 +153,7 @@ fn keep_close(alloc: Global, plain: &mut Plain, log: LogId) -> Result<(), NoMemo
     Ok(())
 }
 
-// What a node makes of a hole at the place 3 of epoch 1 at first, once it is sealed, and once it is trimmed; and of one at the place 4
+// What a node makes of a hole at the offset 3 of epoch 1 at first, once it is sealed, and once it is trimmed; and of one at the offset 4
 // before it has it, with it, and once the epoch is clean.
 fn stored(alloc: Global, log: LogId, node: NodeId) -> Result<[u8; 6], NoMemory> {
     let mut plain = Plain::new(alloc);
@@ -208,7 +208,7 @@ fn record(alloc: Global, bytes: &[u8]) -> Result<What, NoMemory>
     Ok(What::Rec(Payload::new(Vec::from_slice(alloc, bytes)?)))
 }
 
-// Where the node finds what a record at the place 4 is to be compared with, 0 where it takes it, and 1 otherwise.
+// Where the node finds what a record at the offset 4 is to be compared with, 0 where it takes it, and 1 otherwise.
 fn compares(
     alloc: Global,
     plain: &Plain,
@@ -227,7 +227,7 @@ fn compares(
     }
 }
 
-// Where a node that has the record `abc` from the place 100 of its disk on compares these: itself, others of its length, a shorter and a
+// Where a node that has the record `abc` from the offset 100 of its disk on compares these: itself, others of its length, a shorter and a
 // longer one, and itself of another ballot.
 fn compared(alloc: Global, log: LogId, node: NodeId) -> Result<[u64; 5], NoMemory> {
     let mut plain = Plain::new(alloc);

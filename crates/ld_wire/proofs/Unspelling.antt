@@ -161,7 +161,7 @@ pub record BodyRead (bs : List ℕ) (kind : ℕ) (from to : Who) (at next : ℕ)
   pub fits : IsIn (sender kind) from → IsIn (receiver kind) to → Fits from to b
 
 module _ (bs : List ℕ) (kind : ℕ) (from to : Who) (at : ℕ) where
-  -- what was read, at the value and the place that it is said to be
+  -- what was read, at the value and the offset that it is said to be
   made : (b w : Body) (last next : ℕ) → b ≡ w → last ≡ next → BodyRead bs kind from to at last b → BodyRead bs kind from to at next w
   made b w last next e n h = subst (BodyRead bs kind from to at next) e (subst (λ x. BodyRead bs kind from to at x b) n h)
 

@@ -5,7 +5,7 @@ use Rattle.ld_wire.specs.declared.fault.WireFault.TheVariants as faults
 use Rattle.ld_fields.specs.Fields.{Read, Off}
 use Rattle.ld_wire.specs.Judging.{Reading, Refused}
 
--- a fault is what the judging says; want of memory is free
+-- a fault is what the judging says; running out of memory is free
 abbrev pub IsRefused : Reading → WireFault → Type 0
 IsRefused r faults.NoMemory = Unit {0}
 IsRefused r f = r ≡ Refused f

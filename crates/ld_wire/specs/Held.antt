@@ -17,7 +17,7 @@ answer_with (Some f) bs = Refused f
 abbrev pub answered : Held → Reading
 answered h = answer_with h.fault h.bytes
 
--- what is held once a fault was answered; want of memory changes nothing
+-- what is held once a fault was answered; running out of memory changes nothing
 abbrev pub kept_fault : Option WireFault → WireFault → Option WireFault
 kept_fault old faults.NoMemory = old
 kept_fault old (faults.TooLong n) = Some (faults.TooLong n)

@@ -9,10 +9,10 @@ use ld_fields::{FieldFault, GREATEST_EPOCH, check, read_u8, read_u32};
 use ld_ids::NodeId;
 use ld_msg::Who;
 
-/// The greatest place of a reader in the order of opening.
+/// The greatest offset of a reader in the order of opening.
 const LAST_READER: u32 = 999;
 
-/// The actor at a place, where it is of the role: a tag and a number.
+/// The actor at an offset, where it is of the role: a tag and a number.
 #[tactic(auto, unfolding(crate::specs::Judging::read_who))]
 pub(crate) fn read_who(bytes: &[u8], role: Role, at: usize) -> Result<(Who, usize), FieldFault>
     requires { at ≤ length bytes.now }

@@ -13,8 +13,8 @@ pub enum WireFault {
     /// There is no such kind of message.
     #[error("there is no message of kind {0}")]
     BadKind(u8),
-    /// In a frame of the kind, the first field that is cut off or out of its range begins at the place, counted from
-    /// behind the length; or else the first byte that is too many stands there. A length of 0 is kind 0 and place 0.
+    /// In a frame of the kind, the first field that is cut off or out of its range begins at the offset, counted from
+    /// behind the length; or else the first byte that is too many stands there. A length of 0 is kind 0 and offset 0.
     #[error("no message of kind {0} at byte {1}")]
     BadField(u8, u64),
     /// There is no memory left.

@@ -13,7 +13,7 @@ use std::alloc::Global;
 /// The greatest count of entries in a page.
 const MOST_ENTRIES: u16 = 64;
 
-/// The last number of a page at a place, from its first number on and in the same home epoch.
+/// The last number of a page at an offset, from its first number on and in the same home epoch.
 #[tactic(auto, unfolding(crate::specs::Judging::read_upto))]
 pub(crate) fn read_upto(bytes: &[u8], from: Lsn, at: usize) -> Result<(Lsn, usize), FieldFault>
     requires { at ≤ length bytes.now }
@@ -47,7 +47,7 @@ pub(crate) fn page_beside(to: &Who) -> Beside
     }
 }
 
-/// The count of a page at a place, and its entries, among them what may stand beside records, holes and plugs.
+/// The count of a page at an offset, and its entries, among them what may stand beside records, holes and plugs.
 #[tactic(auto, unfolding(crate::specs::Judging::read_page))]
 pub(crate) fn read_page(
     alloc: Global,

@@ -5,8 +5,8 @@ use ld_op::{OpFault, Plain, Pointed};
 use std::alloc::Global;
 use std::test::Fail;
 
-// One log, sealed by epoch 2, trimmed to e1n1 and lost up to epoch 3; epoch 1 is closed before its place 4, of epoch 2 the
-// last known good place 5 is told, and at e1n2 stands a record of two bytes from place 300 on, at e1n3 a hole.
+// One log, sealed by epoch 2, trimmed to e1n1 and lost up to epoch 3; epoch 1 is closed before its offset 4, of epoch 2 the
+// last known good offset 5 is told, and at e1n2 stands a record of two bytes from offset 300 on, at e1n3 a hole.
 const INDEX: &[u8] = &[
     0, 0, 0, 1, 0, 1, // generation, logs
     0, 0, 0, 1, 0, 0, 0, 2, 0, 0, 0, 1, 0, 0, 0, 1, 1, 0, 0, 0, 3, // log, sealed, trim, lost
@@ -17,7 +17,7 @@ const INDEX: &[u8] = &[
     0, 0, 0, 1, 0, 0, 0, 2, 0, 0, 0, 1, 0, 0, 0, 0, 0, 0, 0, 1, 44, 0, 2, // a record
     0, 0, 0, 1, 0, 0, 0, 3, 0, 0, 0, 2, 1, // a hole
 ];
-// A log of which nothing is known, which lists a last known good place of 0.
+// A log of which nothing is known, which lists a last known good offset of 0.
 const ZERO: &[u8] = &[
     0, 0, 0, 1, 0, 1, 0, 0, 0, 7, 0, 0, 0, 0, 0, 0, 0, 0, 0, 0, 0, 0, 0, 0, 0, 0, 0, 0, 0, 0, 0, 0,
     0, 0, 1, 0, 0, 0, 2, 0, 0, 0, 0, 0, 0, 0, 0,
@@ -68,7 +68,7 @@ fn told(alloc: Global, bytes: &[u8]) -> Result<[(u64, u64); 3], OpFault> {
     }
 }
 
-// Whether the bytes are refused at the place.
+// Whether the bytes are refused at the offset.
 fn is_off_at(alloc: Global, older: bool, place: u64, bytes: &[u8]) -> bool {
     match Plain::decode_index(alloc, bytes, older, 0) {
         Ok(_) => false,

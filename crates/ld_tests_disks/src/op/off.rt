@@ -1,4 +1,4 @@
-// Where bytes are off that are no record: heads, versions, formats, entries, last known good places, closes, trims and refills.
+// Where bytes are off that are no record: heads, versions, formats, entries, last known good offsets, closes, trims and refills.
 use crate::op::is_off_at;
 use std::test::Fail;
 
@@ -68,7 +68,7 @@ fn entries_closes_trims_and_refills_are_judged(rt: HostRuntime) -> Result<(), Fa
                 2, 0, 0, 0, 1, 0, 0, 0, 0, 0, 0, 0, 0, 0, 0, 0, 1, 0, 0, 0, 1, 1,
             ],
         ),
-        // An entry at place 0.
+        // An entry at offset 0.
         is_off_at(
             alloc,
             9,
@@ -108,7 +108,7 @@ fn entries_closes_trims_and_refills_are_judged(rt: HostRuntime) -> Result<(), Fa
                 2, 0, 0, 0, 1, 0, 0, 0, 0, 0, 0, 0, 1, 0, 0, 0, 1, 0, 0, 0, 1, 4,
             ],
         ),
-        // A plug at an epoch's last place.
+        // A plug at an epoch's last offset.
         is_off_at(
             alloc,
             21,
@@ -116,7 +116,7 @@ fn entries_closes_trims_and_refills_are_judged(rt: HostRuntime) -> Result<(), Fa
                 2, 0, 0, 0, 1, 0, 0, 0, 0, 0, 0, 0, 1, 255, 255, 255, 255, 0, 0, 0, 2, 3,
             ],
         ),
-        // A record at an epoch's last place.
+        // A record at an epoch's last offset.
         is_off_at(
             alloc,
             21,
@@ -132,7 +132,7 @@ fn entries_closes_trims_and_refills_are_judged(rt: HostRuntime) -> Result<(), Fa
                 2, 0, 0, 0, 1, 0, 0, 0, 0, 0, 0, 0, 1, 0, 0, 0, 1, 0, 0, 0, 1, 0, 0, 2, 104,
             ],
         ),
-        // The greatest place of an epoch as the last known good one, in an accepted store.
+        // The greatest offset of an epoch as the last known good one, in an accepted store.
         is_off_at(
             alloc,
             5,
@@ -167,7 +167,7 @@ fn entries_closes_trims_and_refills_are_judged(rt: HostRuntime) -> Result<(), Fa
                 4,
             ],
         ),
-        // An end at place 0.
+        // An end at offset 0.
         is_off_at(
             alloc,
             25,

@@ -132,7 +132,7 @@ fn an_old_close_loses_nothing(rt: HostRuntime) -> Result<(), Fail> {
     Ok(())
 }
 
-/// Whether a register finds a disk of these bytes damaged from this place on.
+/// Whether a register finds a disk of these bytes damaged from this offset on.
 fn is_damaged_at(alloc: Global, bytes: &[u8], place: u64) -> Result<bool, RegisterFault>
     requires { length bytes.now ≤ 80 }
 {

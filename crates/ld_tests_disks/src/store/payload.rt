@@ -15,7 +15,7 @@ use ld_store::{Store, StoreFault};
 use std::alloc::Global;
 use std::test::Fail;
 
-/// An entry under a place of epoch 1, with this payload.
+/// An entry under an offset of epoch 1, with this payload.
 fn entry(alloc: Global, esn: u32, bytes: &[u8]) -> Result<Entry, NoMemory>
     requires esn { (1 ≤ esn) × (esn < 2 ^ 32 - 1) }
     requires short { length bytes.now ≤ 65_535 }
@@ -29,7 +29,7 @@ fn entry(alloc: Global, esn: u32, bytes: &[u8]) -> Result<Entry, NoMemory>
     })
 }
 
-/// The op that puts the entries of places 2 and 3 in again.
+/// The op that puts the entries of offsets 2 and 3 in again.
 fn refill_two(alloc: Global, log: LogId) -> Result<Op, NoMemory>
     ensures { IfOk result (λ op. IsOp op × (is_format op ≡ false)) }
 {
@@ -122,7 +122,7 @@ fn a_read_that_fails_has_to_be_loaded_again(rt: HostRuntime) -> Result<(), Fail>
     Ok(())
 }
 
-/// Where the payload of the log's place 3 stands.
+/// Where the payload of the log's offset 3 stands.
 fn third(plain: &Plain) -> Result<Place, StoreFault> {
     let log = first_log()?;
     let place = match plain.entry(log, Lsn::new(1, 3)) {
@@ -132,7 +132,7 @@ fn third(plain: &Plain) -> Result<Place, StoreFault> {
     place.ok_or(StoreFault::Full)
 }
 
-/// Whether these bytes stand where the payload of the log's place 3 does.
+/// Whether these bytes stand where the payload of the log's offset 3 does.
 fn stands<D: Disk>(alloc: Global, store: &mut Store<D>, bytes: &[u8]) -> Result<bool, StoreFault> {
     let place = third(store.index())?;
     let payload = payload(alloc, bytes)?;
@@ -143,7 +143,7 @@ fn payload(alloc: Global, bytes: &[u8]) -> Result<Payload, NoMemory> {
     Ok(Payload::new(Vec::from_slice(alloc, bytes)?))
 }
 
-/// Whether the payload of place 3, another of its length and a shorter one stand there.
+/// Whether the payload of offset 3, another of its length and a shorter one stand there.
 fn which_stand(alloc: Global) -> Result<[bool; 3], StoreFault> {
     let mut store = stored(alloc)?;
     Ok([

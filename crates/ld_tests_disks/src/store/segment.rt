@@ -105,7 +105,7 @@ fn a_crash_in_a_later_switch_leaves_the_op_or_not(rt: HostRuntime) -> Result<(),
     Ok(())
 }
 
-/// Trims the log up to a place of epoch 1.
+/// Trims the log up to an offset of epoch 1.
 fn trim_to<D: Disk>(alloc: Global, store: &mut Store<D>, esn: u32) -> Result<(), StoreFault>
     requires { esn < 2 ^ 32 - 1 }
 {
@@ -154,7 +154,7 @@ fn a_trimmed_log_takes_its_space_again(rt: HostRuntime) -> Result<(), Fail> {
     Ok(())
 }
 
-/// From which place on a load finds a disk damaged that was switched once, after a byte was written over; 0 where it
+/// From which offset on a load finds a disk damaged that was switched once, after a byte was written over; 0 where it
 /// doesn't. Its head stands at 1902, its slots begin at 1917 and its Base at 1951.
 fn damaged_behind(alloc: Global, at: u64, byte: u8) -> Result<u64, Fail>
     requires { at < 2 ^ 16 }
@@ -166,7 +166,7 @@ fn damaged_behind(alloc: Global, at: u64, byte: u8) -> Result<u64, Fail>
     Ok(place_of(loaded(alloc, disk).err()))
 }
 
-/// The place of a damage, 0 of nothing, and 1 of another fault.
+/// The offset of a damage, 0 of nothing, and 1 of another fault.
 fn place_of(fault: Option<StoreFault>) -> u64 {
     match fault {
         Some(StoreFault::Damaged(place)) => place,
@@ -185,7 +185,7 @@ fn what_a_head_names_is_damaged_or_not(rt: HostRuntime) -> Result<(), Fail> {
         // No Base stands there, or one of the first version.
         (1_951, 0, 1_951),
         (1_956, 9, 1_951),
-        // The head names a place within the first segment, where no slot is open.
+        // The head names an offset within the first segment, where no slot is open.
         (1_915, 9, 1_801),
         // One behind the disk's end.
         (1_912, 1, 16_779_133),
@@ -197,7 +197,7 @@ fn what_a_head_names_is_damaged_or_not(rt: HostRuntime) -> Result<(), Fail> {
     Ok(())
 }
 
-/// Writes the slots of a disk that was switched once to another place too, and has the head name that.
+/// Writes the slots of a disk that was switched once to another offset too, and has the head name that.
 fn move_slots(disk: &mut MemDisk, place: u64) -> Result<(), Fail>
     requires { (2_000 ≤ place) × (place < 2 ^ 32) }
 {
@@ -218,14 +218,14 @@ fn fill_on<D: Disk>(alloc: Global, store: &mut Store<D>) -> Result<(), StoreFaul
     Ok(())
 }
 
-/// The byte of a disk at a place.
+/// The byte of a disk at an offset.
 fn byte_at(disk: &mut MemDisk, place: u64) -> Result<u8, Fail> {
     let mut byte = [9];
     let _ = disk.read(place, &mut byte)?;
     Ok(byte[0])
 }
 
-/// The gates of the other slot, at a place and where it was before, once a store whose head names another place was
+/// The gates of the other slot, at an offset and where it was before, once a store whose head names another offset was
 /// loaded and switched again, and whether the next load has its last entry.
 fn gates_moved(alloc: Global, place: u64) -> Result<(u8, u8, bool), Fail>
     requires { (2_000 ≤ place) × (place < 2 ^ 32) }
@@ -248,7 +248,7 @@ fn slots_are_read_and_written_where_the_head_names_them(rt: HostRuntime) -> Resu
     Ok(())
 }
 
-/// From which place on a load finds such a disk damaged, after a number of eight bytes was written over at a place: the
+/// From which offset on a load finds such a disk damaged, after a number of eight bytes was written over at an offset: the
 /// disk's length and one, less this; 0 where it doesn't.
 fn damaged_past(alloc: Global, at: u64, less: u64) -> Result<u64, Fail>
     requires { at < 2 ^ 16 }
@@ -264,7 +264,7 @@ fn damaged_past(alloc: Global, at: u64, less: u64) -> Result<u64, Fail>
 #[test]
 fn a_base_that_names_a_place_past_the_end_is_damaged(rt: HostRuntime) -> Result<(), Fail> {
     for (at, less, place) in [
-        // The place of the first entry's payload, which has one byte.
+        // The offset of the first entry's payload, which has one byte.
         (2_009, 2, 0),
         (2_009, 1, 1_951),
         // The length of the area that begins at 0.

@@ -72,7 +72,7 @@ fn a_mark_that_is_cut_short_comes_with_the_next_load(rt: HostRuntime) -> Result<
     Ok(())
 }
 
-/// Whether a load of a disk that holds the bytes finds them damaged from this place on.
+/// Whether a load of a disk that holds the bytes finds them damaged from this offset on.
 fn is_damaged_at(alloc: Global, bytes: &[u8], place: u64) -> Result<bool, Fail> {
     let disk = disk_with(alloc, bytes)?;
     Ok(loaded(alloc, disk).err() == Some(StoreFault::Damaged(place)))
@@ -149,7 +149,7 @@ fn loaded_sealed(alloc: Global, disk: MemDisk) -> Result<(u32, u32, MemDisk), Fa
     Ok((generation, sealed, store.into_disk()))
 }
 
-/// Whether the head stands at a place of the disk, and a Base of the first version 49 bytes on.
+/// Whether the head stands at an offset of the disk, and a Base of the first version 49 bytes on.
 fn is_switched(disk: &mut MemDisk, at: u64) -> Result<bool, Fail>
     requires { at < 2 ^ 16 }
 {
