@@ -122,7 +122,7 @@ of_same P a b p same = subst P same p
 
 -- ---- what was read ----
 
--- want of memory before anything was done
+-- running out of memory before anything was done
 pub nothing_read : (w : Wanted) (broken : Type 0) (most : ℕ) (c : Config) (s : State) (written : Option (List ℕ)) → Stopped (tailing w) broken (TailsUntil w c s.network.count most) c s written written
 nothing_read w broken most c s written = record {
   state = s;
@@ -133,7 +133,7 @@ nothing_read w broken most c s written = record {
 
 -- ---- what was appended ----
 
--- want of memory before anything was done
+-- running out of memory before anything was done
 pub nothing_done : (name : List ℕ) (l : ℕ) (broken : Type 0) (coming : Option Input) (most : ℕ) (c : Config) (s : State) (written : Option (List ℕ)) → Stopped (sequencing name) broken (EndAt name l c s.network.count coming most ends.NoMemory) c s written written
 nothing_done name l broken coming most c s written = record {
   state = s;

@@ -1,4 +1,4 @@
--- An input is a schedule, and a rest that is off, in one way.
+-- An input is a schedule, and a rest with a syntax error, in one way.
 use Rattle.std.proofs.Common.{◌≡◌, ◌<◌, inl, inr, ℕ, List, [], ◌∷◌, ◌++◌, length, refl, sym, ap, ◌∙◌, arith}
 use Rattle.std.specs.Prelude.{flat_map, Ok}
 use Rattle.std.specs.Prelude.{Option}

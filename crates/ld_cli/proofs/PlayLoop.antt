@@ -229,7 +229,7 @@ all_given gave held all front ends =
     let rest : drop (length gave) all ≡ front.rest = ap (drop (length gave)) front.is ∙ drop-append_seam gave front.rest in
     front.is ∙ ap (λ l. gave ++ l) (sym rest ∙ none_of held (drop (length gave) all) ends) ∙ append-nil gave
 
--- want of memory, or a failed read or write, cuts the run off
+-- running out of memory, or a failed read or write, cuts the run off
 pub read_cuts : (left : List ℕ) (old new : Option (List ℕ)) (before now : ℕ) (stop : Stop) → IsReadStop before now stop
     → IsCut left old new → StopsBy left old new stop
 read_cuts left old new before now stops.NoMemory cause cut = cut

@@ -18,7 +18,7 @@ Drives (Append w) = Unit {0}
 Drives (Tail t) = Unit {0}
 Drives _ = ⊥
 
--- the words ask for none that does
+-- the arguments ask for none that does
 abbrev pub AskForNoDrive : List Text → Type 0
 AskForNoDrive words = (command : Command) → Asks words command → Drives command → ⊥
 

@@ -1,7 +1,8 @@
 -- How a replay ends, by the bytes of the input and what was written.
-use Rattle.std.specs.Prelude.{ℕ, ◌≡◌, ◌≤◌, ◌+◌, ◌⊎◌, List, [], ◌∷◌, ◌++◌, length, Option, Some, true}
+use Rattle.std.specs.Prelude.{ℕ, ◌≡◌, ◌≤◌, ◌+◌, ◌*◌, ◌⊎◌, List, [], ◌∷◌, ◌++◌, length, Option, Some, true}
 use Rattle.std.specs.Io.KnownBytes.{Appends}
 use Rattle.ld_schedule.specs.declared.event.Event.{Event}
+use Rattle.ld_schedule.specs.declared.event.Event.TheVariants as happens
 use Rattle.ld_config.specs.declared.config.Config.{Config}
 use Rattle.ld_table.specs.Named.{find_named}
 use Rattle.ld_table.specs.Words.{is_in, how_many}
@@ -10,13 +11,17 @@ use Rattle.ld_transcript.specs.declared.line.Line.TheVariants as lines
 use Rattle.ld_transcript.specs.declared.line.GapKind.TheVariants as gaps
 use Rattle.ld_msg.specs.Reader.{Reader}
 use Rattle.ld_machine.specs.Config.{fixed_of, fixed_at}
-use Rattle.ld_machine.specs.Run.{Move, transcript, history, moves, after_step, world_after, step_happened}
+use Rattle.ld_machine.specs.State.{State, start}
+use Rattle.ld_machine.specs.Calm.{calm_moves, calm_bound}
+use Rattle.ld_machine.specs.Run.{Move, transcript, history, moves, state_after, after_step, world_after, step_happened}
 use Rattle.ld_machine.specs.World.{Made, In, HasPlan, begin}
 use Rattle.ld_machine.specs.Losses.{EndsAsLoss, Completes as Confirms}
 use Rattle.ld_machine.specs.Safe.{Safe}
 use Rattle.ld_safety.specs.Lost.{CopiesAreLost, LossAsked, MadeOfLost}
 use Rattle.ld_safety.specs.OneCopy.{OneSends}
 use Rattle.ld_safety.specs.OneRun.{AreOneRun}
+use Rattle.ld_calm.specs.Ends.{IsCalm}
+use Rattle.ld_calm.specs.Lines.{told_bounds}
 use Rattle.ld_cli.specs.declared.status.Stop.{Stop}
 use Rattle.ld_cli.specs.declared.status.Stop.TheVariants as stops
 use Rattle.ld_cli.specs.declared.status.Status.{Status}
@@ -65,11 +70,19 @@ LossesConfirmed config events = (name : List ℕ) (number : ℕ) (before : List 
     → Confirms (world_after config (begin config) before) d gives → number ≡ d.next
     → LossAsked config name d.log number before gives
 
+-- a calm behind these events ends: each of its steps is the next one with what is left to do, behind the last one nothing is left, and there are no more of them than
+-- the bound that is read from the state, and than the one that the lines before it tell
+pub record CalmEnds (config : Config) (before : List Event) : Type 0 where
+  pub whole : IsCalm config (state_after config (start config) before) (calm_moves config (state_after config (start config) before))
+  pub few : length (calm_moves config (state_after config (start config) before)) ≤ calm_bound config (state_after config (start config) before)
+  pub told : length (calm_moves config (state_after config (start config) before))
+      ≤ 2 * length (state_after config (start config) before).network.fresh + told_bounds config (history config before) (state_after config (start config) before) config.logs
+
 -- the headline: in the run of these events what each reader gets tiles the numbers from its first one on, a record is the payload that was appended under its
 -- number, the messages of a batch are those of the batch that was, each reader gets records or messages as it was opened, no hole or bridge holds a number that was
 -- acknowledged or read, a trim gap ends at an issued point, and a data loss had its moment, in the lines and in the state: it is one that a plan says, or one that was
 -- confirmed; the numbers of appends rise, each of its sequencer's epoch, and what is acknowledged or released was appended before; in a round for one copy of each
--- record one node alone sends each; and these are the lines of the transcript, but for `none`
+-- record one node alone sends each; each calm ends; and these are the lines of the transcript, but for `none`
 pub record IsSafe (config : Config) (events : List Event) : Type 0 where
   pub told : AreOneRun config events
   pub lines : Safe config (history config events)
@@ -77,6 +90,7 @@ pub record IsSafe (config : Config) (events : List Event) : Type 0 where
   pub planned : LossesPlanned config events
   pub confirmed : LossesConfirmed config events
   pub sent : OneSends (world_after config (begin config) (moves config events))
+  pub calms : (before after : List Event) → events ≡ before ++ happens.Calm ∷ after → CalmEnds config before
 
 -- the input is a schedule, and its whole transcript was written
 pub record IsReplayed (bytes : List ℕ) (old new : Option (List ℕ)) : Type 0 where
@@ -89,7 +103,7 @@ pub record IsReplayed (bytes : List ℕ) (old new : Option (List ℕ)) : Type 0 
   pub written : Appends old new (written_by config events)
   pub safe : IsSafe config events
 
--- the first line is off, and nothing was written
+-- the first line has a syntax error, and nothing was written
 pub record StopsFirst (bytes : List ℕ) (old new : Option (List ℕ)) (at place : ℕ) : Type 0 where
   pub off : IsOffFirst bytes place
   pub line : at ≡ 1
@@ -168,7 +182,7 @@ pub record IsSchedule (bytes : List ℕ) : Type 0 where
   pub spelt : AreSpelt events
   pub whole : bytes ≡ schedule_text line events
 
--- how a schedule may end: its status is Ok, but for a fault of the source or the sink, and want of memory
+-- how a schedule may end: its status is Ok, but for a fault of the source or the sink, and running out of memory
 abbrev pub Completes : Type 0 → Type 0 → Status → Type 0
 Completes read write statuses.Ok = Unit {0}
 Completes read write statuses.NoMemory = Unit {0}

@@ -33,7 +33,7 @@ abbrev pub Spells : Bool → List ℕ → List ℕ → Type 0
 Spells false line payload = IsText AreBytes hex_text line payload
 Spells true line payload = IsBatchLine line payload
 
--- the line of this number spells none, and goes on at that place as no such line does; or memory ended
+-- the line of this number spells none, and goes on at that offset as no such line does; or memory ended
 abbrev pub IsUnspelt : Bool → ℕ → List ℕ → InputFault → Type 0
 IsUnspelt batches number line (faults.BadLine at place) = (at ≡ number) × IsMisspelt batches line place
 IsUnspelt batches number line faults.NoMemory = Unit {0}
@@ -88,7 +88,7 @@ abbrev pub with_line : Bool → ℕ → List ℕ → List ℕ → Option (List �
 with_line batches number line rest None input = stops_at batches number (line ++ 10 ∷ rest)
 with_line batches number line rest (Some payload) input = record { payloads = payload ∷ input.payloads; off = input.off }
 
--- the payloads of the lines up to the first one that is off, where a part of the line of this number was seen
+-- the payloads of the lines up to the first one with a syntax error, where a part of the line of this number was seen
 unfoldable pub input_from : Bool → ℕ → List ℕ → List ℕ → Input
 input_from batches number line [] = cut_at batches number line
 input_from batches number line (b ∷ bytes) =

@@ -54,11 +54,11 @@ pub record IsNoConfiguration (bytes : List ℕ) (place : ℕ) : Type 0 where
   pub off : (config : Config) → Says line config → ⊥
   pub at : place ≡ 0
 
--- how the first line is off, and at which place
+-- how the first line has a syntax error, and at which offset
 abbrev pub IsOffFirst : List ℕ → ℕ → Type 0
 IsOffFirst bytes place = IsLong bytes place ⊎ IsCutLine bytes place ⊎ IsNoConfiguration bytes place
 
--- how a later line is off, and at which place
+-- how a later line is off, and at which offset
 pub record IsOffLater (bytes : List ℕ) (place : ℕ) : Type 0 where
   pub some : 1 ≤ length bytes
   pub off : IsLong bytes place ⊎ IsCutLine bytes place ⊎ IsNoEvent bytes place

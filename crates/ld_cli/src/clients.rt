@@ -112,7 +112,7 @@ fn append_lines<I: Source, O: Sink, G: Register, N: Nodes>(
     status_of(ended, before, now)
 }
 
-/// Appends the payloads of the input, or the batches of its messages, to the log that the words name.
+/// Appends the payloads of the input, or the batches of its messages, to the log that the arguments name.
 pub(crate) fn appended<I: Source, O: Sink, G: Register, N: Nodes>(
     alloc: Global,
     words: &AppendWords,
@@ -147,7 +147,7 @@ pub(crate) fn appended<I: Source, O: Sink, G: Register, N: Nodes>(
     append_lines(alloc, &words.of, &spec, name, &mut lines, out, reg, nodes)
 }
 
-/// Reads the log that the words name.
+/// Reads the log that the arguments name.
 pub(crate) fn tailed<O: Sink, G: Register, N: Nodes>(
     alloc: Global,
     words: &TailWords,

@@ -19,7 +19,7 @@ use std::alloc::Global;
 pub enum First {
     /// The line of a configuration.
     Taken { config: Config },
-    /// Another one, and the place where it is off.
+    /// Another one, and the byte offset of its syntax error.
     Off { place: u64 },
 }
 
@@ -29,7 +29,7 @@ pub enum Next {
     Taken { event: Event },
     /// The end of the input.
     End,
-    /// Another line, and the place where it is off.
+    /// Another line, and the byte offset of its syntax error.
     Off { place: u64 },
 }
 

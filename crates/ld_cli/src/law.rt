@@ -5,7 +5,7 @@ ghost use Rattle.ld_config.specs.declared.config.Config.{Config};
 ghost use Rattle.ld_cli.specs.Schedule.{Configures, AreSpelt, schedule_text};
 ghost use Rattle.ld_cli.specs.OneReading.{Ends};
 
-/// An input is a schedule, and a rest that is off, in one way: so the first line that is off is one line.
+/// An input is a schedule, and a rest with a syntax error, in one way: so the first line with a syntax error is one line.
 pub fn has_one_reading()
     ensures { (line first : List ℕ) (config other : Config) (es fs : List Event) (rest more : List ℕ)
         → Configures line config → Configures first other → AreSpelt es → AreSpelt fs → Ends rest → Ends more

@@ -39,7 +39,7 @@ pub(crate) struct PayloadLines<'a, I: Source> {
     pub(crate) input: &'a mut I,
 }
 
-/// The payload that a line of this number spells, or the place where it is off.
+/// The payload that a line of this number spells, or the byte offset of its syntax error.
 fn spelt_payload(alloc: Global, line: &[u8], number: u64) -> Result<Payload, InputFault>
     ensures { MatchResult result (IsText AreBytes hex_text line.now) (IsUnspelt false number line.now) }
 {
@@ -55,7 +55,7 @@ fn spelt_payload(alloc: Global, line: &[u8], number: u64) -> Result<Payload, Inp
     }
 }
 
-/// The messages that a line of this number spells, or the place where it is off.
+/// The messages that a line of this number spells, or the byte offset of its syntax error.
 fn spelt_messages(alloc: Global, line: &[u8], number: u64) -> Result<Messages, InputFault>
     ensures { MatchResult result (IsText IsBatch messages_text line.now) (IsUnspelt true number line.now) }
 {
@@ -84,7 +84,7 @@ fn batch_payload(alloc: Global, messages: &Messages) -> Result<Payload, NoMemory
     Ok(Payload::new(bytes))
 }
 
-/// The payload of the batch whose messages a line of this number spells, or the place where it is off.
+/// The payload of the batch whose messages a line of this number spells, or the byte offset of its syntax error.
 fn spelt_batch(alloc: Global, line: &[u8], number: u64) -> Result<Payload, InputFault>
     ensures { MatchResult result (IsBatchLine line.now) (IsUnspelt true number line.now) }
 {
@@ -113,7 +113,7 @@ impl Held {
         })
     }
 
-    /// The payload that the last line spells, or the place where it is off.
+    /// The payload that the last line spells, or the byte offset of its syntax error.
     fn spelt(&self, alloc: Global) -> Result<Payload, InputFault>
         ensures { MatchResult result (Spells self.now.batches self.now.line.items) (IsUnspelt self.now.batches self.now.number self.now.line.items) }
     {

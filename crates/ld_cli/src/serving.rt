@@ -17,7 +17,7 @@ use ld_serve::{Stop, serve};
 use ld_words::NodeWords;
 use std::alloc::Global;
 
-/// Serves the node that the words ask for.
+/// Serves the node that the arguments ask for.
 pub(crate) fn served<D: Disk, G: Register, L: Link>(
     alloc: Global,
     node: &NodeWords,

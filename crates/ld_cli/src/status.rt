@@ -13,9 +13,9 @@ pub enum Status {
     /// The schedule was read to its end, the made one was run, all turns were taken, all that was to be appended is
     /// acknowledged, or the log was read to its last number.
     Ok,
-    /// The words are no command.
+    /// The arguments are no command.
     Usage,
-    /// The line, counted from 1, is the first one that is off, and this is the place in it.
+    /// The line, counted from 1, is the first one with a syntax error, and this is the byte offset of it.
     BadSchedule { line: u64, place: u64 },
     /// There is no memory left.
     NoMemory,
@@ -31,7 +31,7 @@ pub enum Status {
     Link,
     /// The bytes of a peer begin no frame.
     BadFrame(WireFault),
-    /// The bytes of the store or of the register are no journal, from the place on.
+    /// The bytes of the store or of the register are no journal, from the offset on.
     Damaged { which: Which, place: u64 },
     /// The store isn't formatted, and isn't to be.
     Blank,
@@ -47,7 +47,7 @@ pub enum Status {
     LogLimit,
     /// The log's epochs are used up.
     EpochLimit,
-    /// The places of the sequencer's epoch are used up.
+    /// The offsets of the sequencer's epoch are used up.
     EpochFull,
 }
 

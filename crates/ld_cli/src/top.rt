@@ -45,7 +45,7 @@ use ld_register::Register;
 use ld_words::{Command, read};
 use std::alloc::Global;
 
-/// Runs the command that the words name: a schedule from the input to the output, a made schedule to the output, a node
+/// Runs the command that the arguments name: a schedule from the input to the output, a made schedule to the output, a node
 /// over the disk, the register and the link, or a sequencer or a reader over the register and the nodes. What a command has
 /// no use for isn't called.
 pub fn run<I: Source, O: Sink, D: Disk, G: Register, L: Link, N: Nodes>(
@@ -106,7 +106,7 @@ pub fn run<I: Source, O: Sink, D: Disk, G: Register, L: Link, N: Nodes>(
         → (N.silent nodes.new ≡ true) ⊎ EndsDrive (N.faults nodes.old) (N.faults nodes.new)
         (IsTailed (record { name = codes "r"; log = t.of.log; from = t.from; until = t.until; style = t.style }) (IsBroken (N.faults nodes.old) (N.faults nodes.new) (N.endings nodes.old) (N.endings nodes.new)) t.of.rounds (N.tells nodes.new) (G.tells reg.new) t.of.config s (Some (O.written out.old)) (Some (O.written out.new))) result }
     // Whatever they tell, each status has its cause: Register comes only where the register's count of faults rose, and Damaged
-    // only where its bytes are no journal from that place on.
+    // only where its bytes are no journal from that offset on.
     ensures tail_ends { (t : TailWanted) → Asks (map string_bytes words.now) (Tail t) → EndsDrive (N.faults nodes.old) (N.faults nodes.new)
         (IsTailEnd (λ place. G.told reg.old → G.damaged reg.old place) (G.faults reg.old) (G.faults reg.new) (O.faults out.old) (O.faults out.new)) result }
     // It changes nothing of the register.
@@ -116,10 +116,10 @@ pub fn run<I: Source, O: Sink, D: Disk, G: Register, L: Link, N: Nodes>(
     // and without sequencers, in which the log's next activation fixes what the configuration says of it: the drive is steps of
     // the machine, the activation and then round by round what is sent again (but in the first), appends, and visits of the
     // configuration's nodes, one after the other, each until nothing waits for its node; and what was written are the
-    // sequencer's lines of those steps. The payloads that the machine took are those that
-    // the lines of the input spell, or the payloads of the batches whose messages they spell where batches are asked for: the
-    // first ones in their order, all at the status Ok, and at BadSchedule all before the line that is off. At the status Ok each
-    // append is acknowledged, each epoch before its own is closed, and no message waits.
+    // sequencer's lines of those steps. The payloads that the machine took are those that the lines of the input spell, or the
+    // payloads of the batches whose messages they spell where batches are asked for: the first ones in their order, all at the
+    // status Ok, and at BadSchedule all before the line with a syntax error. At the status Ok each append is acknowledged, each
+    // epoch before its own is closed, and no message waits.
     ensures appended { (w : AppendWanted) (s : State) (far : Far) → Asks (map string_bytes words.now) (Append w) → N.tells nodes.old w.of.config far → Begins (HasNoSequencers (G.tells reg.old)) w.of.config s far → spec_set w.of.config s w.of.log ≡ first_spec w.of.config w.of.log
         → (N.silent nodes.new ≡ true) ⊎ EndsDrive (N.faults nodes.old) (N.faults nodes.new)
         (IsAppended (codes "s") w.of.log (IsBroken (N.faults nodes.old) (N.faults nodes.new) (N.endings nodes.old) (N.endings nodes.new)) (payloads_in w.batches (left_of (I.known input.old) (I.gave input.old))) w.of.rounds (N.tells nodes.new) (G.tells reg.new) w.of.config s (Some (O.written out.old)) (Some (O.written out.new))) result }
@@ -129,7 +129,7 @@ pub fn run<I: Source, O: Sink, D: Disk, G: Register, L: Link, N: Nodes>(
         (IsEndOfAppend (G.told reg.old → MayCrowd (G.may_hold reg.old) w.of.log) (λ place. G.told reg.old → G.damaged reg.old place) (payloads_in w.batches (left_of (I.known input.old) (I.gave input.old))) (I.faults input.old) (I.faults input.new) (O.faults out.old) (O.faults out.new) (Some (O.written out.old)) (Some (O.written out.new))) result }
 
     // Register comes only where the register's count of faults rose. Where it didn't, and the register tells what it holds,
-    // Damaged comes only where that was no journal from that place on, and JournalFull only where it was a whole one and what
+    // Damaged comes only where that was no journal from that offset on, and JournalFull only where it was a whole one and what
     // it holds now leaves no room for an activation or a close.
     ensures append_refused { (w : AppendWanted) → Asks (map string_bytes words.now) (Append w) → EndsDrive (N.faults nodes.old) (N.faults nodes.new)
         (IsRefused (λ place. G.told reg.old → G.damaged reg.old place) (G.told reg.old → HoldsSome (G.holds reg.old) × LacksRoom (G.holds reg.new)) (G.faults reg.old) (G.faults reg.new)) result }

@@ -1,3 +1,5 @@
+pub mod Beginning
+pub mod Calming
 pub mod Chosen
 pub mod Parting
 pub mod Finishing
@@ -10,3 +12,4 @@ pub mod Swapping
 pub mod Setting
 pub mod Logs
 pub mod Bytes
+pub mod Listing

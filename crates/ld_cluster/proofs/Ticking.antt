@@ -6,6 +6,7 @@ use Rattle.ld_transcript.specs.declared.line.Line.TheVariants as lines
 use Rattle.ld_msg.specs.declared.msg.Msg.{Msg}
 use Rattle.ld_op.specs.declared.op.Op.TheVariants as ops
 use Rattle.ld_op.specs.Ticks.{Ticked, Cleans, Rebuilt, Asks, Nothing}
+use Rattle.ld_machine.specs.Calm.{cleans, cleans_by}
 use Rattle.ld_machine.specs.Config.{has_node, has_log, all_nodes}
 use Rattle.ld_machine.specs.Disk.{Node, Kept, Written, DiskFailed, Crashed, JournalFull, is_up, keep_op, keep_end}
 use Rattle.ld_machine.specs.State.{State, Done, node_at, with_node, unchanged}
@@ -20,7 +21,7 @@ use Rattle.ld_clients.specs.declared.outcome.Outcome.{Outcome}
 use Rattle.ld_cluster.specs.declared.cluster.Cluster.{Cluster}
 use Rattle.ld_cluster.specs.Standing.{config_of, past_of, Parts}
 use Rattle.ld_cluster.specs.Outcomes.{IsDone}
-use Rattle.ld_cluster.specs.Ticking.{tick_lines, asks_of}
+use Rattle.ld_cluster.specs.Ticking.{tick_lines, asks_of, has_cleaned}
 use Rattle.ld_cluster.proofs.Chosen.{where_here, where_nowhere, if_yes, if_not}
 use Rattle.ld_cluster.proofs.Parting.{nothing_done, hosted_done}
 
@@ -91,3 +92,30 @@ module _ (k : Cluster) (s : State) (p : Parts k s) (n l : ℕ) (o : Outcome) whe
   ticked_done k' e f w q r x h b a reg ls ms =
       let is = tick_is (config_of k) s n l h b ∙ tick_by (config_of k) s n l (tick_of (node_in s.nodes n) l s.register) in
       hosted_done k k' s _ s.register o _ p e f w q r x a reg (ap (λ (x : Done). x.state) is) (ls ∙ ap (λ (x : Done). x.lines) (sym is)) (ms ∙ ap (λ (x : Done). x.sends) (sym is))
+
+-- ---- whether it cleaned ----
+
+cleaned_or : (e : ℕ) (b : Bool) → has_cleaned (if b then answers.Cleaned e else answers.Nothing) ≡ b
+cleaned_or e true = refl
+cleaned_or e false = refl
+
+rebuilt_or : (b : Bool) → has_cleaned (if b then answers.Rebuilt else answers.Nothing) ≡ false
+rebuilt_or true = refl
+rebuilt_or false = refl
+
+cleaned_by : (c : Config) (n l : ℕ) (x : Node) (t : Ticked) → has_cleaned (answer_by c n x l t) ≡ cleans_by x l t
+cleaned_by c n l x (Cleans e y) = cleaned_or e (is_written (keep_end x (ops.Clean l e y)))
+cleaned_by c n l x Rebuilt = rebuilt_or (is_written (keep_end x (ops.Refilled l)))
+cleaned_by c n l x (Asks from) = refl
+cleaned_by c n l x Nothing = refl
+
+-- what a tick answers says whether it cleaned
+pub cleaned_is : (c : Config) (s : State) (n l : ℕ) (t : declared.Ticked) (b : Bool) → is_up (node_at s n).status ≡ true → t ≡ tick_answer c n (node_in s.nodes n) l s.register → b ≡ has_cleaned t → b ≡ cleans s n l
+cleaned_is c s n l t b u e h = h ∙ (ap has_cleaned e ∙ (cleaned_by c n l (node_at s n) (tick_of (node_at s n) l s.register) ∙ ap (λ x. x && cleans_by (node_at s n) l (tick_of (node_at s n) l s.register)) (sym u)))
+
+-- a node that isn't up cleans nothing
+pub cleaned_not : (c : Config) (s : State) (n l : ℕ) → has_log c l ≡ true → (is_up (node_at s n).status && has_log c l) ≡ false → false ≡ cleans s n l
+cleaned_not c s n l h b = down (is_up (node_at s n).status) (has_log c l) (cleans_by (node_at s n) l (tick_of (node_at s n) l s.register)) h b where
+  down : (u g x : Bool) → g ≡ true → (u && g) ≡ false → false ≡ (u && x)
+  down false g x h b = refl
+  down true g x h b = let e : true ≡ false = sym h ∙ b in absurd cc

@@ -9,7 +9,7 @@ use Rattle.ld_host.specs.Stands.{HasBytesOf}
 use Rattle.ld_host.specs.declared.host.Host.{Host}
 use Rattle.ld_cluster.specs.declared.cluster.Cluster.{Cluster}
 
--- the host of this number, and the bytes on its disk, which stand for the node's plain state
+-- the host of this number, and the bytes on its disk, which represent the node's plain state
 pub record HasBytes (k : Cluster) (n : ℕ) (x : Node) : Type 0 where
   pub host : Host
   pub there : find n k.hosts.map.entries ≡ Some host

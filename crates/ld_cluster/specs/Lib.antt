@@ -5,3 +5,4 @@ pub mod Formats
 pub mod Ticking
 pub mod Bytes
 pub mod Swaps
+pub mod Calming

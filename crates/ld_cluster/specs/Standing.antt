@@ -1,4 +1,4 @@
--- What a cluster stands for: a state of the machine.
+-- What a cluster represents: a state of the machine.
 use Rattle.std.specs.Prelude.{◌≡◌, List, [], ◌∷◌, map}
 use Rattle.ld_config.specs.declared.config.Config.{Config}
 use Rattle.ld_config.specs.Bounds.{IsInBounds}
@@ -44,12 +44,12 @@ pub record Parts (k : Cluster) (s : State) : Type 0 where
   pub readers : AreReaders k.config s k.readers
   pub specs : s.specs ≡ k.specs
 
--- it stands for a state that a run of its configuration may reach
+-- it represents a state that a run of its configuration may reach
 pub record Stands (k : Cluster) (s : State) : Type 0 where
   pub parts : Parts k s
   pub bounds : IsInBounds (config_of k)
   pub sound : IsSound (config_of k) s
 
--- it stands for the state that its steps lead to
+-- it represents the state that its steps lead to
 abbrev pub IsReached : Cluster → Type 0
 IsReached k = Stands k (state_of k)

@@ -1,5 +1,5 @@
 -- What a tick writes and sends.
-use Rattle.std.specs.Prelude.{ℕ, List, [], ◌∷◌}
+use Rattle.std.specs.Prelude.{ℕ, List, [], ◌∷◌, Bool, true, false}
 use Rattle.ld_transcript.specs.declared.line.Line.{Line}
 use Rattle.ld_transcript.specs.declared.line.Line.TheVariants as lines
 use Rattle.ld_msg.specs.declared.msg.Msg.{Msg}
@@ -13,3 +13,8 @@ tick_lines n l _ = []
 abbrev pub asks_of : Ticked → List Msg
 asks_of (ticks.Asked ms) = ms
 asks_of _ = []
+
+-- it cleaned an epoch
+abbrev pub has_cleaned : Ticked → Bool
+has_cleaned (ticks.Cleaned e) = true
+has_cleaned _ = false

@@ -1,6 +1,7 @@
 // What the callers of a cluster do: sequencers and readers.
 ghost use Rattle.std.specs.Prelude.{IfOk, OnErr};
 ghost use Rattle.ld_schedule.specs.declared.event.Event.TheVariants.{Activate, Append, Batch, Trim, Retry, Drop, Poll};
+ghost use Rattle.ld_machine.specs.Calm.{Calms, moves};
 ghost use Rattle.ld_machine.specs.Step.{happens};
 ghost use Rattle.ld_clients.specs.Reads.{opening};
 ghost use Rattle.ld_cluster.specs.Standing.{config_of, state_of, IsReached};
@@ -88,6 +89,16 @@ impl Cluster {
         Ok(outcome)
     }
 
+    /// A sequencer does what a retry does, and tells the released number once more.
+    pub(crate) fn announce(&mut self, alloc: Global, name: &Name) -> Result<Outcome, NoMemory>
+        requires reached { IsReached self.old }
+        ensures same { OnErr result (IsSame self.old self.new) }
+        ensures done { IfOk result (λ outcome. IsDone self.old self.new outcome (moves (config_of self.old) (state_of self.old) (Calms name.now))) }
+    {
+        let outcome = self.sequencers.calm(alloc, name, &mut self.register)?;
+        Ok(outcome)
+    }
+
     /// A sequencer is gone.
     pub(crate) fn retire(&mut self, alloc: Global, name: &Name) -> Result<Outcome, NoMemory>
         requires reached { IsReached self.old }
@@ -118,7 +129,7 @@ impl Cluster {
     }
 
     /// A reader looks at the register and asks the nodes of its next number. The register fails no look, so that a refusal is
-    /// want of memory.
+    /// out of memory.
     pub(crate) fn poll(&mut self, alloc: Global, name: &Name) -> Result<Outcome, NoMemory>
         requires reached { IsReached self.old }
         ensures same { OnErr result (IsSame self.old self.new) }

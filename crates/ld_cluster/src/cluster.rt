@@ -59,9 +59,9 @@ impl Cluster {
         })
     }
 
-    /// Takes the event as one step of the machine, or, for a `flow`, as one step for each delivery, and adds the lines.
-    /// A `calm` isn't run yet: nothing is done, and the answer is the same as for want of memory. After an `Err` the
-    /// cluster may have done a part, of which it has added the first lines, and is of no use.
+    /// Takes the event as one step of the machine, or, for a `flow` or a `calm`, as one step for each delivery or for each
+    /// step of the calm, and adds the lines. After an `Err` the cluster may have done a part, of which it has added the
+    /// first lines, and is of no use.
     pub fn step(&mut self, alloc: Global, event: &Event, lines: &mut Lines) -> Result<(), NoMemory>
         requires reached { IsReached self.old }
         requires counts { Counts event.now }
@@ -73,7 +73,8 @@ impl Cluster {
             return Ok(());
         }
         if let Event::Calm = event {
-            return Err(NoMemory);
+            self.calm(alloc, lines)?;
+            return Ok(());
         }
         self.take(alloc, event, lines)?;
         Ok(())

@@ -78,7 +78,7 @@ impl Cluster {
         Ok(Outcome { lines, sends })
     }
 
-    /// A message to a reader. The register fails no look, so that a refusal is want of memory.
+    /// A message to a reader. The register fails no look, so that a refusal is out of memory.
     fn to_reader(
         &mut self,
         alloc: Global,

@@ -1,7 +1,9 @@
 //! A cluster: nodes on their disks, a register, sequencers, readers and all messages between them, event by event.
 #![tactic(auto)]
 
+mod agenda;
 mod calls;
+mod calm;
 mod cluster;
 mod copy;
 mod deliver;
@@ -14,6 +16,7 @@ mod law;
 mod lines;
 mod lookup;
 mod nodes;
+mod part;
 mod past;
 mod sets;
 mod specs;

@@ -1,10 +1,12 @@
 // Nodes that look at the register.
-ghost use Rattle.std.specs.Prelude.{◌≡◌, IfOk, OnErr};
+ghost use Rattle.std.specs.Prelude.{◌≡◌, true, IfOk, OnErr};
+ghost use Rattle.ld_machine.specs.Calm.{cleans};
+ghost use Rattle.ld_machine.specs.Config.{has_log, has_node};
 ghost use Rattle.ld_schedule.specs.declared.event.Event.TheVariants.{Tick};
 ghost use Rattle.ld_machine.specs.Step.{happens};
 ghost use Rattle.ld_cluster.specs.Standing.{config_of, state_of, IsReached};
 ghost use Rattle.ld_cluster.specs.Outcomes.{IsSame, IsDone};
-ghost use Rattle.ld_cluster.specs.Ticking.{tick_lines, asks_of};
+ghost use Rattle.ld_cluster.specs.Ticking.{tick_lines, asks_of, has_cleaned};
 
 use crate::cluster::Cluster;
 use crate::lines::{kept, one_line};
@@ -27,19 +29,46 @@ impl Cluster {
         ensures same { OnErr result (IsSame self.old self.new) }
         ensures done { IfOk result (λ outcome. IsDone self.old self.new outcome (happens (config_of self.old) (state_of self.old) (Tick node log))) }
     {
+        let (outcome, _) = self.look(alloc, node, log)?;
+        Ok(outcome)
+    }
+
+    /// The same, and whether it cleaned an epoch.
+    pub(crate) fn look(
+        &mut self,
+        alloc: Global,
+        node: NodeId,
+        log: LogId,
+    ) -> Result<(Outcome, bool), NoMemory>
+        requires reached { IsReached self.old }
+        ensures same { OnErr result (IsSame self.old self.new) }
+        ensures done { IfOk result (λ done. IsDone self.old self.new done.0 (happens (config_of self.old) (state_of self.old) (Tick node log))) }
+        ensures cleans { has_node (config_of self.old) node ≡ true → has_log (config_of self.old) log ≡ true → IfOk result (λ done. done.1 ≡ cleans (state_of self.old) node log) }
+    {
         if !self.config.nodes.has(node) {
-            return Ok(Outcome::nothing(alloc));
+            return Ok((Outcome::nothing(alloc), false));
         }
         if !self.serves(node, log) {
-            return Ok(Outcome::nothing(alloc));
+            return Ok((Outcome::nothing(alloc), false));
         }
         let (end, ticked) = self.hosts.tick(alloc, node, log, &mut self.register)?;
+        let cleaned = has_cleaned(&ticked);
         let line = tick_lines(alloc, node, log, &ticked)?;
         let lines = kept(alloc, node, end, line)?;
-        Ok(Outcome {
-            lines,
-            sends: asks(alloc, ticked),
-        })
+        let sends = asks(alloc, ticked);
+        Ok((Outcome { lines, sends }, cleaned))
+    }
+}
+
+/// Whether the tick cleaned an epoch.
+fn has_cleaned(ticked: &Ticked) -> bool
+    ensures { result ≡ has_cleaned ticked.now }
+{
+    match ticked {
+        Ticked::Cleaned(_) => true,
+        Ticked::Asked(_) => false,
+        Ticked::Rebuilt => false,
+        Ticked::Nothing => false,
     }
 }
 

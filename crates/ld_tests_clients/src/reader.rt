@@ -1,4 +1,4 @@
-// Readers against answers as nodes give them. Each reads the places 1 and 2 of epoch 1 of a log whose first nodes are three.
+// Readers against answers as nodes give them. Each reads the offsets 1 and 2 of epoch 1 of a log whose first nodes are three.
 use ld_disk::{Fault, MemDisk};
 use ld_ids::{LogId, NoMemory, NodeId, NodeSet, Payload, Spec};
 use ld_lsn::Lsn;
@@ -95,7 +95,7 @@ fn swap<G: Register>(alloc: Global, reg: &mut G) -> Result<u32, ReaderFault> {
 
 // ---- answers ----
 
-// What stands at a place.
+// What stands at an offset.
 #[derive(Clone, Copy)]
 enum Stands {
     Record,
@@ -104,7 +104,7 @@ enum Stands {
     Plug,
 }
 
-// What a node says: it is lost for epoch 1 under generation 2, the epoch ends at the place 2, or a clean page of the places
+// What a node says: it is lost for epoch 1 under generation 2, the epoch ends at the offset 2, or a clean page of the offsets
 // from 1 to `last` has something at one of them.
 #[derive(Clone, Copy)]
 enum Says {
@@ -250,7 +250,7 @@ fn reads(alloc: Global, style: Style, rows: &[Row]) -> Result<(usize, bool), Rea
     Ok((count, scene.reader.finished()))
 }
 
-// The item at a place, as one letter, with a dot where there is none.
+// The item at an offset, as one letter, with a dot where there is none.
 fn letter(items: &Items, place: usize) -> u8 {
     match items.as_slice().get(place) {
         Some(given) => match &given.item {
@@ -265,7 +265,7 @@ fn letter(items: &Items, place: usize) -> u8 {
     }
 }
 
-// Whether the message at a place asks for one copy.
+// Whether the message at an offset asks for one copy.
 fn asks_one(out: &Outbox, place: usize) -> bool {
     match out.as_slice().get(place) {
         Some(msg) => match &msg.body {
@@ -276,28 +276,28 @@ fn asks_one(out: &Outbox, place: usize) -> bool {
     }
 }
 
-// A record at the place 2, on a page of both places.
+// A record at the offset 2, on a page of both offsets.
 const SECOND: Says = Says::Page {
     last: 2,
     esn: 2,
     stands: Stands::Record,
 };
 
-// A record at the place 1, on a page of both places.
+// A record at the offset 1, on a page of both offsets.
 const FIRST: Says = Says::Page {
     last: 2,
     esn: 1,
     stands: Stands::Record,
 };
 
-// A record at the place 1, on a page of that place alone.
+// A record at the offset 1, on a page of that offset alone.
 const ONLY: Says = Says::Page {
     last: 1,
     esn: 1,
     stands: Stands::Record,
 };
 
-// What stands at the place 1, and an end behind which nothing is lost, or something.
+// What stands at the offset 1, and an end behind which nothing is lost, or something.
 const HOLE: Says = Says::Page {
     last: 2,
     esn: 1,
@@ -390,7 +390,7 @@ fn where_sets_have_changed_a_round_begins_in_place_of_a_loss(rt: HostRuntime) ->
     Ok(())
 }
 
-// A record at the place 1 that another node is to send, on a page of that place alone.
+// A record at the offset 1 that another node is to send, on a page of that offset alone.
 const WITHHELD: Says = Says::Page {
     last: 1,
     esn: 1,
@@ -407,7 +407,7 @@ fn spares(alloc: Global, rows: &[Row]) -> Result<(usize, bool, bool), ReaderFaul
 
 #[test]
 fn a_record_that_its_sender_lacks_is_asked_of_all(rt: HostRuntime) -> Result<(), Fail> {
-    // node 3 is to send the record at the place 1
+    // node 3 is to send the record at the offset 1
     let rows = [
         (1, 1, WITHHELD, (b'.', b'.', 3)),
         (3, 1, SECOND, (b'.', b'.', 6)),
@@ -417,7 +417,7 @@ fn a_record_that_its_sender_lacks_is_asked_of_all(rt: HostRuntime) -> Result<(),
     Ok(())
 }
 
-// A hole at the place 1, on a page of that place alone.
+// A hole at the offset 1, on a page of that offset alone.
 const LONE_HOLE: Says = Says::Page {
     last: 1,
     esn: 1,

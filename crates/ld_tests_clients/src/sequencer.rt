@@ -48,7 +48,7 @@ fn from_node(log: LogId, number: u8, body: Body) -> Msg {
     }
 }
 
-// A node stored what has this place of the epoch.
+// A node stored what has this offset of the epoch.
 fn stored(log: LogId, node: u8, epoch: u32, esn: u32) -> Msg {
     let number = Lsn::new(epoch, esn);
     from_node(log, node, Body::Stored { number })

@@ -1,5 +1,5 @@
 // What a reader's calls write and send.
-use crate::clients::scene::{Does, FIRST, OTHERS, Says, Step, as_told};
+use crate::clients::scene::{Does, FIRST, OTHERS, Says, Step, as_told, readers_of};
 use ld_msg::Style;
 use std::test::Fail;
 
@@ -21,6 +21,14 @@ const ONE_COPY: &[Step] = &[
 fn one_copy_is_asked_for_first(rt: HostRuntime) -> Result<(), Fail> {
     let alloc = rt.alloc();
     assert_eq!(rt; as_told(alloc, ONE_COPY)?, ONE_COPY.len());
+    Ok(())
+}
+
+#[test]
+fn readers_are_found_by_their_log(rt: HostRuntime) -> Result<(), Fail> {
+    let alloc = rt.alloc();
+    assert!(rt; readers_of(alloc, 7)? == 1);
+    assert!(rt; readers_of(alloc, 8)? == 0);
     Ok(())
 }
 

@@ -21,7 +21,7 @@ use std::alloc::Global;
 
 const CONFIG: &[u8] = br#"{"nodes":[1,2,3,4],"logs":[{"id":7,"set":[1,2,3],"r":2,"extras":0}]}"#;
 
-// The first three nodes, and two others: bit n - 1 stands for node n.
+// The first three nodes, and two others: bit n - 1 represents node n.
 pub(crate) const FIRST: u16 = 0b0111;
 
 pub(crate) const OTHERS: u16 = 0b1010;
@@ -169,6 +169,15 @@ fn retry<G: Register>(
     sequencers.retry(alloc, name, reg)
 }
 
+fn calm<G: Register>(
+    alloc: Global,
+    sequencers: &mut Sequencers,
+    name: &Name,
+    reg: &mut G,
+) -> Result<Outcome, NoMemory> {
+    sequencers.calm(alloc, name, reg)
+}
+
 fn hear<G: Register>(
     alloc: Global,
     sequencers: &mut Sequencers,
@@ -226,7 +235,7 @@ fn read<G: Register>(
     }
 }
 
-// A node stored what has the first place of epoch 1.
+// A node stored what has the first offset of epoch 1.
 fn stored(node: u8) -> Result<Msg, NoMemory>
     ensures { IfOk result IsMessage }
 {
@@ -244,7 +253,7 @@ fn stored(node: u8) -> Result<Msg, NoMemory>
     Err(NoMemory)
 }
 
-// What a node says of the first place of epoch 1: all up to the place 9 is trimmed, or the epoch ends there, and what follows
+// What a node says of the first offset of epoch 1: all up to the offset 9 is trimmed, or the epoch ends there, and what follows
 // is lost or isn't.
 #[derive(Clone, Copy)]
 pub(crate) enum Says {
@@ -302,13 +311,15 @@ pub(crate) enum Does {
     Append,
     // `s` numbers the batch of one message of so many bytes.
     Batch(usize),
-    // `s` trims up to the place 0 of epoch 1.
+    // `s` trims up to the offset 0 of epoch 1.
     Trim,
     Retry,
+    // `s` retries, and tells its released number once more.
+    Calm,
     Drop,
-    // This node tells `s` that it stored what has the first place.
+    // This node tells `s` that it stored what has the first offset.
     Stored(u8),
-    // `d` is opened on the places 1 to 4 of epoch 1.
+    // `d` is opened on the offsets 1 to 4 of epoch 1.
     Open(Style),
     Poll,
     // The first node says this to `d`.
@@ -368,6 +379,14 @@ fn opens(alloc: Global, scene: &mut Scene, name: &Name, style: Style) -> Result<
     open(alloc, &mut scene.readers, &config, name, log(7)?, style)
 }
 
+// How many readers a log has, once `d` is opened on log 7.
+pub(crate) fn readers_of(alloc: Global, number: u32) -> Result<usize, NoMemory> {
+    let mut scene = begin(alloc)?;
+    let name = named(alloc, b"d")?;
+    opens(alloc, &mut scene, &name, Style::EachCopy)?;
+    Ok(scene.readers.names(alloc, log(number)?)?.len())
+}
+
 fn hears(alloc: Global, scene: &mut Scene, node: u8) -> Result<Outcome, NoMemory> {
     let msg = stored(node)?;
     hear(alloc, &mut scene.sequencers, &msg, &mut scene.reg)
@@ -388,6 +407,7 @@ fn outcome(alloc: Global, scene: &mut Scene, does: Does) -> Result<Outcome, NoMe
         Does::Batch(bytes) => batches(alloc, scene, &writer, bytes),
         Does::Trim => trim(alloc, &scene.sequencers, &writer),
         Does::Retry => retry(alloc, &mut scene.sequencers, &writer, &mut scene.reg),
+        Does::Calm => calm(alloc, &mut scene.sequencers, &writer, &mut scene.reg),
         Does::Drop => Ok(scene.sequencers.drop(alloc, &writer)),
         Does::Stored(node) => hears(alloc, scene, node),
         Does::Open(style) => opens(alloc, scene, &reader, style),

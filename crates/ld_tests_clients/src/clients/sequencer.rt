@@ -15,6 +15,17 @@ fn serves(alloc: Global, name: &[u8]) -> Result<bool, NoMemory> {
     }
 }
 
+// Whether the log's last sequencer has this name, once `t` and then `s` are activated.
+fn is_last(alloc: Global, name: &[u8]) -> Result<bool, NoMemory> {
+    let mut scene = begin(alloc)?;
+    activates(alloc, &mut scene, b't', FIRST)?;
+    activates(alloc, &mut scene, b's', FIRST)?;
+    match scene.sequencers.last_of(log(7)?) {
+        Some(found) => Ok(found.bytes() == name),
+        None => Ok(false),
+    }
+}
+
 // On how many nodes a record of the log is stored, 0 where the log is none of the configuration's.
 fn factor(alloc: Global, number: u32) -> Result<u8, NoMemory> {
     match find_spec(&four_nodes(alloc)?, log(number)?) {
@@ -40,6 +51,34 @@ const APPENDED: Step = (Does::Append, b"appended s e1n1\n", b"s3s1");
 fn a_sequencer_is_found_by_its_epoch(rt: HostRuntime) -> Result<(), Fail> {
     let alloc = rt.alloc();
     assert!(rt; serves(alloc, b"s")?);
+    Ok(())
+}
+
+#[test]
+fn the_last_sequencer_is_that_of_the_greatest_epoch(rt: HostRuntime) -> Result<(), Fail> {
+    let alloc = rt.alloc();
+    assert!(rt; is_last(alloc, b"s")?);
+    Ok(())
+}
+
+// The released number is told before the stores of a retry, and again by each calm.
+const CALMED: &[Step] = &[
+    ACTIVE,
+    APPENDED,
+    (Does::Calm, b"", b"r1r2r3s1s2"),
+    (Does::Stored(1), b"", b""),
+    (
+        Does::Stored(2),
+        b"acked s e1n1\nreleased s e1n1\n",
+        b"r1r2r3",
+    ),
+    (Does::Calm, b"", b"r1r2r3"),
+];
+
+#[test]
+fn a_calm_tells_the_released_number_again(rt: HostRuntime) -> Result<(), Fail> {
+    let alloc = rt.alloc();
+    assert_eq!(rt; as_told(alloc, CALMED)?, CALMED.len());
     Ok(())
 }
 
@@ -88,6 +127,7 @@ const DROPPED: &[Step] = &[
     (Does::Batch(65_532), b"", b""),
     (Does::Trim, b"", b""),
     (Does::Retry, b"", b""),
+    (Does::Calm, b"", b""),
     (Does::Stored(1), b"", b""),
     (Does::Drop, b"", b""),
     (Does::Activate(b's', FIRST), b"", b""),

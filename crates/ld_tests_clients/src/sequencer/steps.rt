@@ -13,7 +13,7 @@ use ld_register::{DiskRegister, Register};
 use ld_sequencer::{Report, Sequencer, SequencerFault};
 use std::alloc::Global;
 
-// The greatest place of an epoch.
+// The greatest offset of an epoch.
 const LAST: u32 = 4_294_967_295;
 
 // The log.
@@ -174,7 +174,7 @@ fn comes(alloc: Global, run: &mut Run, node: u8, body: Body) -> Result<Report, S
         .on_reply(alloc, &msg, &mut run.reg, &mut run.out)
 }
 
-// The node stored what has the first place of epoch 1.
+// The node stored what has the first offset of epoch 1.
 fn stores(alloc: Global, run: &mut Run, node: u8) -> Result<Report, SequencerFault> {
     let number = Lsn::new(1, 1);
     comes(alloc, run, node, Body::Stored { number })
@@ -220,12 +220,12 @@ fn fails(run: &mut Run) -> Report {
     Report::nothing()
 }
 
-// What happens to a sequencer, its register and the first places of epoch 1.
+// What happens to a sequencer, its register and the first offsets of epoch 1.
 #[derive(Clone, Copy)]
 pub(crate) enum Step {
     // One byte is appended.
     Appends,
-    // The node stored what has the first place.
+    // The node stored what has the first offset.
     Stores(u8),
     // The node has nothing of the epoch.
     HasNothing(u8),

@@ -334,7 +334,7 @@ fn a_retry_looks_again(rt: HostRuntime) -> Result<(), Fail> {
     Ok(())
 }
 
-// Whether all up to a place of epoch 1 that isn't released may go, and up to the one that is; and how many messages that is.
+// Whether all up to an offset of epoch 1 that isn't released may go, and up to the one that is; and how many messages that is.
 fn trims(alloc: Global) -> Result<([Result<(), SequencerFault>; 2], usize), NoMemory> {
     let mut run = run_on(alloc, [1, 2, 3], &[])?;
     let past = run.sequencer.trim(Lsn::new(1, 1), &mut run.out);
