@@ -1,0 +1,5 @@
+pub mod Calls
+pub mod Course
+pub mod Left
+pub mod Memory
+pub mod Serving
