@@ -1,4 +1,5 @@
-# Nodes as processes of this machine, for the scripts beside it: they set `config` and `nodes`, and source this file.
+# Nodes as processes of this machine, for the scripts beside it: they set `config` and `nodes`, and source this file. The register is a
+# file, or what they set as `register`.
 #
 # All files are in a folder of their own, which is removed at the end, as are the nodes, however it ends. Without PROGRAM it is what
 # ./ld runs, which is built before any node is started; why it can't be built ./ld says.
@@ -28,7 +29,7 @@ say() { printf '\n# %s\n' "$*"; }
 start() {
   local node=$1
   shift
-  "$program" node --id "$node" --config "$config" --store "$folder/store$node" --register "$folder/register" \
+  "$program" node --id "$node" --config "$config" --store "$folder/store$node" --register "${register:-$folder/register}" \
     --port $((port + node)) --turns 1000000000 "$@" 2> "$folder/node$node" &
   process[$node]=$!
 }
@@ -74,4 +75,4 @@ start_all() {
 }
 
 # A command over the nodes, with the configuration that stands at the moment.
-log() { "$program" "$1" --config "$config" --log 1 --register "$folder/register" --port "$port" "${@:2}"; }
+log() { "$program" "$1" --config "$config" --log 1 --register "${register:-$folder/register}" --port "$port" "${@:2}"; }

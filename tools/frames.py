@@ -1,5 +1,5 @@
 """Frames of docs/formats.md, as the scripts beside this file and those of bench/ speak them to `ld node`."""
-import pathlib, socket, struct, subprocess, time
+import json, os, pathlib, select, socket, struct, subprocess, time
 
 NODE, SEQUENCER, READER = 0, 1, 2
 STORE, STORED, RELEASE, TRIM, READ_ASK, READ_PAGE, READ_TRIM, READ_WAIT = 1, 2, 10, 11, 12, 13, 15, 16
@@ -217,6 +217,41 @@ class Nodes:
             process.kill()
             process.wait()
         self.processes = {}
+
+
+class NodesAt(Nodes):
+    """Nodes that listen at addresses of their own, whose ports the system chooses, and commands that have a table of them."""
+
+    def __init__(self, program, folder, hosts, copies):
+        super().__init__(program, folder, len(hosts), copies)
+        self.hosts, self.addresses = hosts, {}
+
+    def start_at(self, node, with_format=False, within=20):
+        """Starts a node, and finds its address by the line that it writes where standard error is a terminal."""
+        words = self.words(node, 0)
+        at = words.index("--port")
+        words[at:at + 2] = ["--listen", f"{self.hosts[node]}:0"]
+        ours, theirs = os.openpty()
+        self.processes[node] = subprocess.Popen(words + ["--format"] * with_format, stdin=subprocess.DEVNULL, stdout=subprocess.DEVNULL, stderr=theirs)
+        os.close(theirs)
+        said, end = b"", time.monotonic() + within
+        while not said.endswith(b"\n") and select.select([ours], [], [], max(0, end - time.monotonic()))[0]:
+            try:
+                said += os.read(ours, 1024)
+            except OSError:
+                break
+        os.close(ours)
+        line = said.decode(errors="replace").strip()
+        if not line.startswith("ld: listening on ") or line.startswith("ld: listening on port"):
+            raise NotUp(f"node {node} said {line!r}")
+        self.addresses[node] = f"{self.hosts[node]}:{line.rsplit(':', 1)[1]}"
+        return line.removeprefix("ld: listening on ")
+
+    def log_words(self, command, rounds, *more, register=None, base=None):
+        words = super().log_words(command, rounds, *more, register=register, base=1)
+        at = words.index("--port")
+        words[at:at + 2] = ["--at", json.dumps(self.addresses)]
+        return words
 
 
 class NotUp(Exception):

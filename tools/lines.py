@@ -2,6 +2,7 @@
 
 Each was told by hand, or by trying each prefix of a line against the grammar; `tools/rows` gives them to the program.
 """
+import json
 
 # Events, each with the length of the longest beginning with which some event begins, or None where it is an event.
 EVENTS = [
@@ -16,6 +17,7 @@ EVENTS = [
     ("fail 16 1000000", None),
     ("tear 3 4 0f", None),
     ("regfail 100 undone", None),
+    ("calm", None),
     ("calm ", 4),
     ("calmly", 4),
     ("cal", 3),
@@ -135,6 +137,10 @@ NODES = [
     ("--id 0 --port 1 --turns 9", "--id isn't a number"),
     ("--id 01 --port 1 --turns 9", "--id isn't a number"),
     ("--id 1 --port 65536 --turns 9", "--port isn't a number"),
+    ("--id 1 --turns 9", "one of --port and --listen has to be given"),
+    ("--id 1 --port 1 --listen 127.0.0.1:1 --turns 9", "--port and --listen can't be given at once"),
+    ("--id 1 --listen a:1 --listen a:1 --turns 9", ""),
+    ("--id 1 --at {} --turns 9", ""),
     ("--id 1 --port 1 --turns 0", "--turns isn't a number"),
     ("--id 1 --port 1 --turns 1000000001", "--turns isn't a number"),
     ("--id 1 --port 1", ""),
@@ -143,6 +149,33 @@ NODES = [
     ("--id 1 --port 1 --turns 9 --format --format", ""),
     ("--id 1 --port 1 --turns 9 --format=true", ""),
     ("--id 1 --port 1 --turns 9 --store t", ""),
+]
+
+# Texts that are no address, of any port.
+ADDRESSES = [
+    "", "127.0.0.1", "127.0.0.1:", "127.0.0.1:65536", "127.0.0.1:-1", "10.0.0.300:1", "1.2.3:1", "010.0.0.1:1", "0.0.0.0.0:1", "10.0.0.1 :1",
+    "::1", "::1:1", "[::1]", "[::1]:", "[::1:1", "::1]:1", "[::g]:1", "[1:2:3:4:5:6:7:8:9]:1", "[10.0.0.1]:1", "[a]:1",
+    "a", ":1", "a:", "a:01", "a:+1", "a:1 ", " a:1", "a:65536", "a:1:1", "a b:1", "a/b:1", "http://a:1", "\u00e9:1", ".-:1", "1:1", "a" * 254 + ":1",
+]
+
+# Addresses of the nodes 1 to 3 that are refused, and a part of the reason.
+TABLES = [
+    ("", "it isn't JSON: there is a syntax error at byte offset 0"),
+    ("{", "it isn't JSON: there is a syntax error at byte offset 1"),
+    ('{"1":"a:1",\n"2":"b:1",\n"3":c:1}', "it isn't JSON: there is a syntax error at byte offset 27"),
+    ('{"1":"a:1","2":"b:1","3":"c:1"} {', "it isn't JSON: there is a syntax error at byte offset 32"),
+    ("[]", "it isn't an object"),
+    ('"a:1"', "it isn't an object"),
+    ("{}", "node 1 of the configuration has no address"),
+    ('{"1":"a:1","3":"c:1"}', "node 2 of the configuration has no address"),
+    ('{"1":"a:1","2":"b:1","03":"c:1"}', "node 3 of the configuration has no address"),
+    ('{"1":"a:1","2":"b:1","3":"c:1","4":"d:1"}', '"4" is none of the configuration\'s nodes'),
+    ('{"1":"a:1","2":"b:1","3":"c:1","":"d:1"}', '"" is none of the configuration\'s nodes'),
+    ('{"1":"a:1","2":"b:1","3":"c:1","\\n":"d:1"}', '"\\n" is none of the configuration\'s nodes'),
+    ('{"1":"a:1","2":7401,"3":"c:1"}', "the address of node 2 isn't HOST:PORT"),
+    ('{"1":"a:1","2":"b:0","3":"c:1"}', "the port of node 2 is 0"),
+    ('{"1":"10.0.0.1:0","2":"b:1","3":"c:1"}', "the port of node 1 is 0"),
+    ('{"1":"a:1","2":"b:1","3":"[::1]:00"}', "the port of node 3 is 0"),
 ]
 
 # The same of `node` over three nodes, behind everything but its store and register.
@@ -163,6 +196,14 @@ APPENDS = [
     ("--log 01 --port 1 --rounds 1", "--log isn't a number"),
     ("--log 1 --port 0 --rounds 1", "--port isn't a number from 1 to 65519"),
     ("--log 1 --port 65520 --rounds 1", "--port isn't a number"),
+    ("--log 1 --rounds 1", "one of --port and --at has to be given"),
+    ('--log 1 --port 1 --at {"1":"a:1"} --rounds 1', "--port and --at can't be given at once"),
+    ('--log 1 --port 1 --at {} --rounds 1', "--port and --at can't be given at once"),
+    ('--log 1 --at {"1":"a:1"} --at {"1":"a:1"} --rounds 1', ""),
+    ("--log 1 --listen a:1 --rounds 1", ""),
+    ("--log 1 --port 1 --rounds 1 --limit 99", "--limit isn't a number from 100 to 60000"),
+    ("--log 1 --port 1 --rounds 1 --limit 60001", "--limit isn't a number"),
+    ("--log 1 --port 1 --rounds 1 --limit 0100", "--limit isn't a number"),
     ("--log 1 --port 1 --rounds 0", "--rounds isn't a number from 1 to 1000000"),
     ("--log 1 --port 1 --rounds 1000001", "--rounds isn't a number"),
     ("--log 1 --port 1", ""),
@@ -198,6 +239,12 @@ def refused():
         yield line.split(" "), reason
     for line, reason in NODES:
         yield ["node", "--config", NODE, "--store", "s", "--register", "r", *line.split()], reason
+    for address in ADDRESSES:
+        yield ["node", "--config", NODE, "--store", "s", "--register", "r", "--id", "1", "--turns", "9", "--listen", address], "--listen isn't HOST:PORT"
+        table = json.dumps({"1": "a:1", "2": address, "3": "c:1"})
+        yield ["append", "--config", NODE, "--register", "r", "--log", "1", "--rounds", "9", "--at", table], "the address of node 2 isn't HOST:PORT"
+    for table, reason in TABLES:
+        yield ["append", "--config", NODE, "--register", "r", "--log", "1", "--rounds", "9", "--at", table], f"--at is refused: {reason}"
     for line, reason in FILES:
         yield ["node", "--config", NODE, "--id", "1", "--port", "1", "--turns", "9", *line.split()], reason
     for line, reason in APPENDS:

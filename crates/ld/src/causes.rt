@@ -1,22 +1,24 @@
 // What a person is told of a run that didn't end well.
+use crate::etcd_causes::tell_etcd;
 use crate::files::store_of;
-use crate::reasons::{file_reason, port_reason};
+use crate::reasons::{address_reason, file_reason, port_reason};
 use ld_cli::{Status, Which};
 use ld_config::{Config, ConfigFault};
+use ld_etcd::Cause;
 use ld_hints::explain;
 use ld_real::Tried;
 use ld_wire::WireFault;
-use ld_words::{Places, config_cause, reason};
+use ld_words::{Listen, Places, Reach, config_cause, reason};
 use std::io::{ErrorKind, Result};
 
 /// What is known of a run beside its status.
 #[derive(Clone, Copy)]
 pub struct Found<'a, 'b> {
-    /// The words of the command line.
+    /// The command-line arguments.
     pub words: &'a [String],
-    /// The files and the port.
+    /// The files, and where the command listens or dials.
     pub places: &'a Places,
-    /// What was read of the line that is off, where that is kept.
+    /// What was read of the line with a syntax error, where that is kept.
     pub line: Option<&'b [u8]>,
     /// Whether that was read with the byte that ends it.
     pub is_ended: bool,
@@ -24,9 +26,13 @@ pub struct Found<'a, 'b> {
     pub disk: Option<ErrorKind>,
     /// The system's reason for the last failed call of the register's file.
     pub register: Option<ErrorKind>,
-    /// Whether the port was bound.
+    /// Whether the register is in etcd.
+    pub is_in_etcd: bool,
+    /// Why the last call to etcd failed.
+    pub etcd: Option<Cause>,
+    /// Whether the address was bound.
     pub is_listening: bool,
-    /// Which calls at the port failed.
+    /// Which calls at the address failed.
     pub port: Tried,
     /// Which calls to nodes failed.
     pub nodes: Tried,
@@ -44,10 +50,13 @@ pub fn tell_early(rt: &HostRuntime, words: &[String], status: Status) -> Result<
 /// Writes to standard error that the store and the register are one file.
 pub fn tell_one_file(rt: &HostRuntime) -> Result<()> {
     tell_status(rt, Status::Usage)?;
-    eprintln!(rt; "ld: --store and --register are the same file")
+    eprintln!(rt;
+        "ld: --store and --register are the same file, or one is a symbolic link to a file that isn't there"
+    )
 }
 
-fn tell_status(rt: &HostRuntime, status: Status) -> Result<()> {
+/// Writes a status to standard error.
+pub fn tell_status(rt: &HostRuntime, status: Status) -> Result<()> {
     eprintln!(rt; "ld: status {}", status.code())
 }
 
@@ -55,22 +64,17 @@ fn tell_memory(rt: &HostRuntime) -> Result<()> {
     eprintln!(rt; "ld: out of memory")
 }
 
-/// Tells that memory ended; a schedule with a `calm`, which isn't run yet, ends with the same status.
-fn tell_end(rt: &HostRuntime, found: &Found<'_, '_>) -> Result<()> {
-    if is_command(found.words, "replay") {
-        return eprintln!(rt; "ld: out of memory, or at a `calm`, which isn't run yet");
-    }
-    tell_memory(rt)
-}
-
 /// Writes the status to standard error, and its cause in plain words.
 pub fn tell(rt: &HostRuntime, status: Status, found: &Found<'_, '_>) -> Result<()> {
     tell_status(rt, status)?;
+    if found.is_in_etcd && tell_etcd(rt, status, found)? {
+        return Ok(());
+    }
     match status {
         Status::Ok => Ok(()),
         Status::Usage => tell_usage(rt, found.words),
         Status::BadSchedule { line, place } => tell_line(rt, line, place, found),
-        Status::NoMemory => tell_end(rt, found),
+        Status::NoMemory => tell_memory(rt),
         Status::Read => eprintln!(rt; "ld: reading standard input failed"),
         Status::Write => eprintln!(rt; "ld: writing standard output failed"),
         Status::Disk => eprintln!(rt;
@@ -87,7 +91,10 @@ pub fn tell(rt: &HostRuntime, status: Status, found: &Found<'_, '_>) -> Result<(
             file_of(which, found.places),
             name_of(which)
         ),
-        Status::Blank => eprintln!(rt; "ld: the store isn't formatted; --format formats it"),
+        Status::Blank => eprintln!(rt;
+            "ld: the store's file {} isn't formatted: is it the right one? --format formats it, for a node that has kept nothing yet",
+            store_of(found.places)
+        ),
         Status::JournalFull(which) => eprintln!(rt;
             "ld: the {}'s journal is full: it has at most 2^40 bytes",
             name_of(which)
@@ -97,7 +104,7 @@ pub fn tell(rt: &HostRuntime, status: Status, found: &Found<'_, '_>) -> Result<(
         }
         Status::NotDone => tell_waiting(rt, found.words),
         Status::Preempted(by) => eprintln!(rt;
-            "ld: preempted by {by}: another sequencer has taken the log over in that epoch"
+            "ld: preempted by epoch {by}: another sequencer has taken the log over"
         ),
         Status::LogLimit => eprintln!(rt;
             "ld: the register holds 64 other logs, which is all that it can"
@@ -126,11 +133,11 @@ fn file_of<'a>(which: Which, places: &'a Places) -> &'a str {
 /// How the commands are spelt.
 const USAGE: &str = "ld: usage: ld replay < SCHEDULE
 ld:        ld exercise --seed N --events M
-ld:        ld node --id N --config TEXT --store FILE --register FILE --port P --turns K [--format]
-ld:        ld append --config TEXT --log L --register FILE --port P --rounds K [--batches] < PAYLOADS
-ld:        ld tail --config TEXT --log L --register FILE --port P --rounds K --from LSN --until LSN [--one-copy | --messages]";
+ld:        ld node --id N --config TEXT --store FILE --register FILE (--port P | --listen HOST:PORT) --turns K [--format]
+ld:        ld append --config TEXT --log L --register FILE (--port P | --at TEXT) --rounds K [--limit MS] [--batches] < PAYLOADS
+ld:        ld tail --config TEXT --log L --register FILE (--port P | --at TEXT) --rounds K [--limit MS] --from LSN --until LSN [--one-copy | --messages]";
 
-/// Whether the words begin with this command's name.
+/// Whether the arguments begin with this command's name.
 fn is_command(words: &[String], name: &str) -> bool {
     words.first().is_some_and(|word| word.as_str() == name)
 }
@@ -155,31 +162,55 @@ fn tell_link(rt: &HostRuntime, found: &Found<'_, '_>) -> Result<()> {
     if !is_command(found.words, "node") {
         return tell_nodes(rt, found);
     }
-    if found.is_listening {
-        return eprintln!(rt;
-            "ld: port {} gives no further connection",
-            found.places.port
-        );
+    match &found.places.listen {
+        Listen::Port(port) if found.is_listening => {
+            eprintln!(rt; "ld: port {port} gives no further connection")
+        }
+        Listen::At(address) if found.is_listening => {
+            eprintln!(rt; "ld: {} gives no further connection", address.as_str())
+        }
+        Listen::Port(port) => eprintln!(rt;
+            "ld: listening on port {port} failed: {}",
+            port_reason(found.port.cause())
+        ),
+        Listen::At(address) => eprintln!(rt;
+            "ld: listening on {} failed: {}",
+            address.as_str(),
+            address_reason(found.port.cause())
+        ),
     }
-    eprintln!(rt;
-        "ld: listening on port {} failed: {}",
-        found.places.port,
-        port_reason(found.port.cause())
-    )
 }
 
-/// Tells which nodes didn't answer, and at which ports.
+/// Tells where a node is that didn't answer.
+fn tell_node(rt: &HostRuntime, before: &str, node: u8, reach: &Reach) -> Result<()> {
+    match reach {
+        Reach::Above(port) => {
+            let port = port.saturating_add(u16::from(node));
+            eprint!(rt; "{before} node {node} at port {port}")
+        }
+        Reach::At(addresses) => {
+            for of in addresses.as_slice() {
+                if of.node.number() == node {
+                    return eprint!(rt; "{before} node {node} at {}", of.address.as_str());
+                }
+            }
+            Ok(())
+        }
+    }
+}
+
+/// Tells which nodes didn't answer, and where they are.
 fn tell_nodes(rt: &HostRuntime, found: &Found<'_, '_>) -> Result<()> {
     eprint!(rt; "ld: not done in these rounds: calls to nodes failed")?;
     let mut before = ": no answer from";
     for node in 1..17u8 {
         if found.nodes.has_failed(node) {
-            let port = found.places.port.saturating_add(u16::from(node));
-            eprint!(rt; "{before} node {node} at port {port}")?;
+            tell_node(rt, before, node, &found.places.reach)?;
             before = ",";
         }
     }
-    eprintln!(rt;)
+    eprintln!(rt;)?;
+    eprintln!(rt; "ld: is each of them up, and is it that node that listens there?")
 }
 
 /// Tells what a run waits for that reached each node and isn't done.
@@ -187,7 +218,8 @@ fn tell_waiting(rt: &HostRuntime, words: &[String]) -> Result<()> {
     eprintln!(rt; "ld: not done in these rounds, though no call to a node failed")?;
     if is_command(words, "tail") {
         return eprintln!(rt;
-            "ld: some records up to --until aren't released yet, or never were appended. Where all nodes were started again since the last append, nobody tells what was released: an `ld append` without input closes the epoch, and then its records can be read"
+            "ld: awaited are the numbers from the last one on standard output, or where there is none from --from, up to --until {}: they aren't released yet, or never were appended. Where all nodes were started again since the last append, nobody tells what was released: an `ld append` without input closes the epoch, and then its records can be read",
+            word_behind(words, "--until")
         );
     }
     eprintln!(rt; "ld: too few nodes have stored what isn't acknowledged; more --rounds may help")
@@ -212,6 +244,23 @@ fn first_part(reason: &str) -> &str {
     }
 }
 
+/// The word behind this one, which may also stand in it behind an equals sign.
+fn word_behind<'a>(words: &'a [String], name: &str) -> &'a str {
+    let mut is_next = false;
+    for word in words {
+        if is_next {
+            return word.as_str();
+        }
+        is_next = word.as_str() == name;
+        if let Some(rest) = word.as_str().strip_prefix(name) {
+            if let Some(value) = rest.strip_prefix("=") {
+                return value;
+            }
+        }
+    }
+    ""
+}
+
 /// How a line of payloads is spelt.
 fn payload_hint(words: &[String]) -> &'static str {
     if words.iter().any(|word| word.as_str() == "--batches") {
@@ -221,7 +270,7 @@ fn payload_hint(words: &[String]) -> &'static str {
     }
 }
 
-/// Why the end of a line is off, where that is what is off.
+/// Why the end of a line is a syntax error, where the syntax error is there.
 fn end_reason(place: u64, found: &Found<'_, '_>) -> Option<&'static str> {
     let line = found.line?;
     let left = line.get(place as usize..)?;
@@ -234,7 +283,7 @@ fn end_reason(place: u64, found: &Found<'_, '_>) -> Option<&'static str> {
     None
 }
 
-/// Tells which line is off, where it is, and how such a line is spelt.
+/// Tells which line has a syntax error, where it is, and how such a line is spelt.
 fn tell_line(rt: &HostRuntime, line: u64, place: u64, found: &Found<'_, '_>) -> Result<()> {
     if let Some(reason) = end_reason(place, found) {
         return eprintln!(rt; "ld: line {line} place {place}: {reason}");
@@ -280,7 +329,7 @@ fn tell_frame(rt: &HostRuntime, fault: WireFault) -> Result<()> {
     match fault {
         WireFault::TooLong(length) => {
             eprintln!(rt;
-                "ld: frame length {length}: a frame has at most 8388608 bytes behind its length"
+                "ld: frame length {length}: a frame has at most 8388608 bytes behind its length; is this a peer of ld?"
             )
         }
         WireFault::BadKind(kind) => eprintln!(rt; "ld: frame kind {kind}: there is no such kind"),

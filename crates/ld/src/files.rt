@@ -13,7 +13,8 @@ pub fn store_of(places: &Places) -> &str {
     }
 }
 
-/// Whether the store and the register are one file, by whatever paths.
+/// Whether the store and the register are one file, by whatever paths. Where neither is there yet, a symbolic link may name
+/// the other one once that is made: it counts as that.
 pub fn are_one_file(rt: &HostRuntime, places: &Places) -> bool {
     match &places.store {
         Some(store) => is_one_file(rt, store.as_str(), places.register.as_str()),
@@ -25,8 +26,16 @@ pub fn are_one_file(rt: &HostRuntime, places: &Places) -> bool {
 fn is_one_file(rt: &HostRuntime, one: &str, other: &str) -> bool {
     match (fs::metadata(rt, one), fs::metadata(rt, other)) {
         (Ok(one), Ok(other)) => is_same(&one, &other),
-        (Err(_), Err(_)) => is_one_name(rt, one, other),
+        (Err(_), Err(_)) => is_link(rt, one) || is_link(rt, other) || is_one_name(rt, one, other),
         _ => false,
+    }
+}
+
+/// Whether the path is that of a symbolic link.
+fn is_link(rt: &HostRuntime, path: &str) -> bool {
+    match fs::symlink_metadata(rt, path) {
+        Ok(found) => found.is_symlink(),
+        Err(_) => false,
     }
 }
 

@@ -2,16 +2,24 @@
 #![tactic(auto)]
 
 mod causes;
+mod etcd_causes;
 mod files;
+mod places;
 mod reasons;
+mod registers;
 
-use causes::{Found, tell, tell_early, tell_one_file};
+use causes::{Found, tell, tell_early, tell_one_file, tell_status};
+use etcd_causes::{tell_no_mark, tell_place};
 use files::{are_one_file, store_of};
 use ld_cli::{Status, run};
 use ld_dial::Framed;
+use ld_etcd::{Cause, PlaceFault, place_of};
 use ld_hints::Recent;
-use ld_real::{Announced, FileDisk, FileRegister, StdSink, StdSource, TcpLink};
-use ld_words::{FileName, Places, places};
+use ld_io::Source;
+use ld_real::{Announced, FileDisk, StdSink, StdSource, TcpLink, Tried};
+use ld_words::{FileName, Listen, Places, Reach, places};
+use places::{addresses_of, dialing, listening, listening_text};
+use registers::NamedRegister;
 use std::io::{Error, ErrorKind, IsTerminal, writer};
 use std::process::ExitCode;
 
@@ -40,7 +48,7 @@ fn ends_early(rt: &HostRuntime, words: &[String], status: Status) -> Status {
     status
 }
 
-/// Finds the files and the port that the words name. What a command has no use for is never opened.
+/// Finds the files that the arguments name, and where they listen or dial. What a command has no use for is never opened.
 fn perform(rt: &HostRuntime, words: &[String]) -> Status {
     let alloc = rt.alloc();
     let Ok(places) = places(alloc, words) else {
@@ -49,7 +57,9 @@ fn perform(rt: &HostRuntime, words: &[String]) -> Status {
     let places = places.unwrap_or(Places {
         store: None,
         register: FileName::new(String::new(alloc)),
-        port: 0,
+        listen: Listen::Port(0),
+        reach: Reach::Above(0),
+        limit: 0,
     });
     if are_one_file(rt, &places) {
         let _ = tell_one_file(rt);
@@ -58,36 +68,25 @@ fn perform(rt: &HostRuntime, words: &[String]) -> Status {
     carry_out(rt, words, &places)
 }
 
-/// Makes what the words name, calls the top call, and tells its status where it isn't Ok.
-fn carry_out<'a>(rt: &'a HostRuntime, words: &'a [String], places: &'a Places) -> Status {
-    let alloc = rt.alloc();
-    let Ok(mut disk) = FileDisk::new(alloc, rt, store_of(places)) else {
-        return ends_early(rt, words, Status::NoMemory);
+/// What is known of the calls that failed.
+#[derive(Clone, Copy)]
+struct Failures {
+    disk: Option<ErrorKind>,
+    register: Option<ErrorKind>,
+    is_in_etcd: bool,
+    etcd: Option<Cause>,
+    is_listening: bool,
+    port: Tried,
+    nodes: Tried,
+}
+
+/// Carries out what the arguments name, and tells the status where it isn't Ok.
+fn carry_out(rt: &HostRuntime, words: &[String], places: &Places) -> Status {
+    let mut input = Recent::new(rt.alloc(), StdSource::new(rt.reader()));
+    let (status, failures) = match call(rt, words, places, &mut input) {
+        Ok(ended) => ended,
+        Err(status) => return status,
     };
-    let Ok(text) = String::from_str(alloc, "ld: listening on port ") else {
-        return ends_early(rt, words, Status::NoMemory);
-    };
-    // A person is told; what reads standard error otherwise finds the status first.
-    let out = if rt.stderr().is_terminal() {
-        Some(rt.stderr())
-    } else {
-        None
-    };
-    let mut link = Announced::new(rt, places.port, out, text);
-    let mut input = Recent::new(alloc, StdSource::new(rt.reader()));
-    let mut register = FileRegister::new(rt, places.register.as_str());
-    let mut nodes = Framed::new(alloc, TcpLink::new(rt, places.port));
-    let mut out = StdSink::new(writer(rt));
-    let status = run(
-        alloc,
-        words,
-        &mut input,
-        &mut out,
-        &mut disk,
-        &mut register,
-        &mut link,
-        &mut nodes,
-    );
     if status != Status::Ok {
         let (line, is_ended) = match status {
             Status::BadSchedule { line, .. } => (input.line(line), input.is_ended(line)),
@@ -98,18 +97,92 @@ fn carry_out<'a>(rt: &'a HostRuntime, words: &'a [String], places: &'a Places) -
             places,
             line,
             is_ended,
-            disk: disk.cause(),
-            register: register.cause(),
-            is_listening: link.is_listening(),
-            port: link.tried(),
-            nodes: nodes.into_link().tried(),
+            disk: failures.disk,
+            register: failures.register,
+            is_in_etcd: failures.is_in_etcd,
+            etcd: failures.etcd,
+            is_listening: failures.is_listening,
+            port: failures.port,
+            nodes: failures.nodes,
         };
         let _ = tell(rt, status, &found);
     }
     status
 }
 
-/// The words of the command line after the program's name.
+/// Makes what the arguments name, and calls the top call. An error is a status that came before the call, and was told.
+fn call<I: Source>(
+    rt: &HostRuntime,
+    words: &[String],
+    places: &Places,
+    input: &mut I,
+) -> Result<(Status, Failures), Status> {
+    let alloc = rt.alloc();
+    let Ok(mut disk) = FileDisk::new(alloc, rt, store_of(places)) else {
+        return Err(ends_early(rt, words, Status::NoMemory));
+    };
+    let Ok(text) = String::from_str(alloc, listening_text(&places.listen)) else {
+        return Err(ends_early(rt, words, Status::NoMemory));
+    };
+    let Ok(addresses) = addresses_of(alloc, &places.reach) else {
+        return Err(ends_early(rt, words, Status::NoMemory));
+    };
+    // A person is told; what reads standard error otherwise finds the status first.
+    let out = if rt.stderr().is_terminal() {
+        Some(rt.stderr())
+    } else {
+        None
+    };
+    let mut link = Announced::new(rt, listening(&places.listen), out, text);
+    let mut register = register_of(rt, places.register.as_str())?;
+    let dialing = dialing(&places.reach, &addresses);
+    let mut nodes = Framed::new(alloc, TcpLink::dialing(rt, dialing, places.limit));
+    let mut out = StdSink::new(writer(rt));
+    let status = run(
+        alloc,
+        words,
+        input,
+        &mut out,
+        &mut disk,
+        &mut register,
+        &mut link,
+        &mut nodes,
+    );
+    let failures = Failures {
+        disk: disk.cause(),
+        register: register.file_cause(),
+        is_in_etcd: register.is_in_etcd(),
+        etcd: register.etcd_cause(),
+        is_listening: link.is_listening(),
+        port: link.tried(),
+        nodes: nodes.into_link().tried(),
+    };
+    Ok((status, failures))
+}
+
+/// The register of a name: records in etcd, or a file. A status where there is none, which was told.
+fn register_of<'a>(rt: &'a HostRuntime, name: &'a str) -> Result<NamedRegister<'a>, Status> {
+    let place = match place_of(rt.alloc(), name) {
+        Ok(Some(place)) => place,
+        Ok(None) => return Ok(NamedRegister::file(rt, name)),
+        Err(PlaceFault::NoMemory) => return Err(ends_early(rt, &[], Status::NoMemory)),
+        Err(fault) => {
+            let _ = tell_status(rt, Status::Usage);
+            let _ = tell_place(rt, fault);
+            return Err(Status::Usage);
+        }
+    };
+    match NamedRegister::etcd(rt, place) {
+        Ok(register) => Ok(register),
+        Err(_) => {
+            let _ = tell_status(rt, Status::Register);
+            let _ = tell_no_mark(rt);
+            Err(Status::Register)
+        }
+    }
+}
+
+/// The command-line arguments after the program's name.
 fn words_of(rt: &HostRuntime) -> std::io::Result<Vec<String>> {
     let mut words = Vec::new(rt.alloc());
     for word in std::env::args(rt)?.skip(1) {

@@ -32,3 +32,12 @@ pub fn port_reason(cause: Option<ErrorKind>) -> &'static str {
         _ => "the system has no socket for it",
     }
 }
+
+/// Why an address can't be listened on.
+pub fn address_reason(cause: Option<ErrorKind>) -> &'static str {
+    match cause {
+        Some(ErrorKind::AddrNotAvailable) => "it is no address of this machine",
+        Some(ErrorKind::Uncategorized) => "the resolver doesn't know its name",
+        _ => port_reason(cause),
+    }
+}

@@ -1,39 +1,48 @@
 // A link that tells when it listens.
 ghost use Rattle.std.specs.Prelude.{◌≡◌, []};
 
-use crate::{TcpLink, Tried};
+use crate::{Listening, TcpLink, Tried};
 use ld_io::Failed;
 use ld_link::Link;
 use std::fmt::Write as _;
 use std::io::Write;
 use std::net::{Net, TcpListener, TcpStream};
 
-/// A link at a port that writes a line for a person once the port is bound, before it waits for the first peer: a text, and the
-/// port behind it. Where there is nowhere to write it, or that fails, it goes on.
+/// A link that writes a line for a person once its address is bound, before it waits for the first peer: a text, and behind
+/// it the port, where it listens at a port of 127.0.0.1, or else the address. Where there is nowhere to write it, or that
+/// fails, it goes on.
 #[derive(Drop)]
 pub struct Announced<'a, R: Net<Listener = TcpListener, Stream = TcpStream>, W: Write + Drop> {
     link: TcpLink<'a, R>,
+    by_port: bool,
     out: Option<W>,
     text: String,
     is_listening: bool,
 }
 
 impl<'a, R: Net<Listener = TcpListener, Stream = TcpStream>, W: Write + Drop> Announced<'a, R, W> {
-    /// A link at this port, which isn't bound yet, and the line's text up to the port. No call has failed yet.
-    pub fn new(rt: &'a R, port: u16, out: Option<W>, text: String) -> Announced<'a, R, W>
-        ensures port { result.link.port ≡ port }
+    /// A link that listens there, which isn't bound yet, and the line's text up to the port or the address. No call has
+    /// failed yet.
+    pub fn new(
+        rt: &'a R,
+        listening: Listening<'a>,
+        out: Option<W>,
+        text: String,
+    ) -> Announced<'a, R, W>
+        ensures listening { result.link.listening ≡ listening.entry }
         ensures did { result.link.did.events ≡ [] }
         ensures faults { result.link.faults ≡ 0 }
     {
         Announced {
-            link: TcpLink::new(rt, port),
+            link: TcpLink::listening(rt, listening),
+            by_port: matches!(listening, Listening::Port(_)),
             out,
             text,
             is_listening: false,
         }
     }
 
-    /// Whether the port was bound.
+    /// Whether the address was bound.
     pub fn is_listening(&self) -> bool
         ensures { result ≡ self.now.is_listening }
     {
@@ -50,8 +59,12 @@ impl<'a, R: Net<Listener = TcpListener, Stream = TcpStream>, W: Write + Drop> An
         ensures link { self.new.link ≡ self.old.link }
     {
         self.is_listening = true;
-        if let Some(port) = self.link.bound() {
-            let _ = writeln!(self.text, "{port}");
+        if let Some(address) = self.link.bound() {
+            let _ = if self.by_port {
+                writeln!(self.text, "{}", address.port())
+            } else {
+                writeln!(self.text, "{address}")
+            };
             if let Some(out) = &mut self.out {
                 let _ = out.write_all(self.text.as_bytes());
             }

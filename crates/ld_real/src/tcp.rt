@@ -1,11 +1,14 @@
-// A link over the sockets of this machine.
-ghost use Rattle.std.specs.Prelude.{◌≡◌, ◌<◌, ◌≤◌, ◌+◌, ◌^◌, [], length, true, false, None, Ok, IfOk, IfSome, OnErr, MatchOption, is_ok};
+// A link over sockets.
+ghost use Rattle.std.specs.Prelude.{◌≡◌, ◌<◌, ◌≤◌, [], length, true, false, None, Ok, IfOk, IfSome, OnErr, is_ok};
 ghost use Rattle.std.specs.Io.{ReadsAtMost, WritesAtMost};
 ghost use Rattle.ld_io.specs.Causes.{HasCause};
 ghost use Rattle.ld_link.specs.Calls.{after_next, after_read, after_write, after_dial};
 ghost use Rattle.ld_real.specs.Dialed.{is_dialed, is_broken};
+ghost use Rattle.ld_real.specs.declared.places.Dialing.TheVariants.{Above};
+ghost use Rattle.ld_real.specs.declared.places.Listening.TheVariants.{Port};
 
-use crate::Tried;
+use crate::places::{address_of, bound_at, connected_to, port_behind};
+use crate::{Dialing, Listening, Tried};
 use ld_io::Failed;
 use ld_link::{Dial, Link};
 use ld_past::Past;
@@ -14,35 +17,37 @@ use std::io::{ErrorKind, Read, Write};
 use std::net::{Ipv4Addr, Net, SocketAddr, TcpListener, TcpStream};
 use std::time::Duration;
 
-/// How many seconds a call of a dialed connection takes at most.
-const LIMIT: u64 = 10;
+/// How many milliseconds a call of a dialed connection takes at most, where nothing else is said.
+const LIMIT: u32 = 10_000;
 
 /// The present peer.
 #[derive(Drop)]
 pub(crate) enum Peer {
     /// None has come, or its connection broke.
     Nobody,
-    /// It connected to the port.
+    /// It connected to the address where the link listens.
     Came(TcpStream),
     /// It was dialed; none where nobody took the call, or the connection broke.
     Dialed(Option<TcpStream>),
 }
 
-/// A link whose peers are those that connect to a port of 127.0.0.1, and those that are dialed. The port is bound at
-/// the first call that waits for a peer, so a link that only dials never binds it. There is no last peer: where none is
-/// there it waits.
+/// A link whose peers are those that connect to the address where it listens, and those that are dialed. The address is
+/// bound at the first call that waits for a peer, so a link that only dials never binds one. There is no last peer: where
+/// none is there it waits.
 ///
 /// A peer that came and whose connection breaks is one that has ended: a read gives nothing from then on, and what is
 /// written to it is taken and goes nowhere, as bytes in a buffer of the system would. So no peer that came makes a call
-/// fail. The faults are those of the port: it is taken, or the system gives no further connection.
+/// fail. The faults are those of the address: it is taken, or the system gives no further connection.
 ///
 /// Whoever dials has to know more. A dial that nobody takes is a fault, and so is a read or a write of a dialed
-/// connection that breaks, or that the node keeps waiting for 10 seconds. After it each read and write fails, until the
-/// next peer is present. A dialed node that ends is no fault.
+/// connection that breaks, or that the node keeps waiting for the link's limit, 10 seconds where nothing else is said.
+/// After it each read and write fails, until the next peer is present. A dialed node that ends is no fault.
 #[derive(Drop)]
 pub struct TcpLink<'a, R: Net<Listener = TcpListener, Stream = TcpStream>> {
     rt: &'a R,
-    port: u16,
+    listening: Listening<'a>,
+    dialing: Dialing<'a>,
+    limit: u32,
     listener: Option<TcpListener>,
     present: Peer,
     did: Past,
@@ -51,16 +56,53 @@ pub struct TcpLink<'a, R: Net<Listener = TcpListener, Stream = TcpStream>> {
 }
 
 impl<'a, R: Net<Listener = TcpListener, Stream = TcpStream>> TcpLink<'a, R> {
-    /// A link at this port, which isn't bound yet. No peer is there, and no call has failed yet.
+    /// A link at this port of 127.0.0.1, which isn't bound yet, that dials nodes at the ports above it. No peer is there,
+    /// and no call has failed yet.
     pub fn new(rt: &'a R, port: u16) -> TcpLink<'a, R>
-        ensures port { result.port ≡ port }
+        ensures listening { result.listening ≡ Port port }
+        ensures dialing { result.dialing ≡ Above port }
+        ensures nobody { is_dialed result.present ≡ false }
+        ensures did { result.did.events ≡ [] }
+        ensures faults { result.faults ≡ 0 }
+    {
+        TcpLink::over(rt, Listening::Port(port), Dialing::Above(port), LIMIT)
+    }
+
+    /// A link that listens at this address, which isn't bound yet. It isn't meant to dial: node N would be at port N of
+    /// 127.0.0.1.
+    pub fn listening(rt: &'a R, listening: Listening<'a>) -> TcpLink<'a, R>
+        ensures listening { result.listening ≡ listening.entry }
+        ensures nobody { is_dialed result.present ≡ false }
+        ensures did { result.did.events ≡ [] }
+        ensures faults { result.faults ≡ 0 }
+    {
+        TcpLink::over(rt, listening, Dialing::Above(0), LIMIT)
+    }
+
+    /// A link that dials nodes at these addresses, each call within so many milliseconds.
+    pub fn dialing(rt: &'a R, dialing: Dialing<'a>, limit: u32) -> TcpLink<'a, R>
+        ensures dialing { result.dialing ≡ dialing.entry }
+        ensures limit { result.limit ≡ limit }
+        ensures nobody { is_dialed result.present ≡ false }
+        ensures did { result.did.events ≡ [] }
+        ensures faults { result.faults ≡ 0 }
+    {
+        TcpLink::over(rt, Listening::Port(0), dialing, limit)
+    }
+
+    fn over(rt: &'a R, listening: Listening<'a>, dialing: Dialing<'a>, limit: u32) -> TcpLink<'a, R>
+        ensures listening { result.listening ≡ listening.entry }
+        ensures dialing { result.dialing ≡ dialing.entry }
+        ensures limit { result.limit ≡ limit }
         ensures nobody { is_dialed result.present ≡ false }
         ensures did { result.did.events ≡ [] }
         ensures faults { result.faults ≡ 0 }
     {
         TcpLink {
             rt,
-            port,
+            listening,
+            dialing,
+            limit,
             listener: None,
             present: Peer::Nobody,
             did: Past::new(),
@@ -69,8 +111,8 @@ impl<'a, R: Net<Listener = TcpListener, Stream = TcpStream>> TcpLink<'a, R> {
         }
     }
 
-    /// Binds the port where it isn't bound. It fails where the port is taken or the system has no socket left, and
-    /// the next call tries again.
+    /// Binds the address where it isn't bound. It fails where the address is taken or none of this machine, where the
+    /// resolver doesn't know its name, or the system has no socket left, and the next call tries again.
     pub fn ready(&mut self) -> Result<(), Failed>
         ensures cause { HasCause self.old.faults self.new.faults result }
         ensures did { self.new.did ≡ self.old.did }
@@ -84,16 +126,16 @@ impl<'a, R: Net<Listener = TcpListener, Stream = TcpStream>> TcpLink<'a, R> {
         ensures cause { HasCause self.old.faults self.new.faults result }
     {
         let answer = match self.bind() {
-            Ok(()) => bound_port(&self.listener),
+            Ok(()) => bound_address(&self.listener),
             Err(error) => Err(error),
         };
-        self.count(answer)
+        Ok(self.count(answer)?.port())
     }
 
-    /// The port that is bound, where one is.
-    pub fn bound(&self) -> Option<u16> {
-        match bound_port(&self.listener) {
-            Ok(port) => Some(port),
+    /// The address that is bound, where one is.
+    pub fn bound(&self) -> Option<SocketAddr> {
+        match bound_address(&self.listener) {
+            Ok(address) => Some(address),
             Err(_) => None,
         }
     }
@@ -108,8 +150,7 @@ impl<'a, R: Net<Listener = TcpListener, Stream = TcpStream>> TcpLink<'a, R> {
         ensures did { self.new.did ≡ self.old.did }
     {
         if self.listener.is_none() {
-            let address = (Ipv4Addr::LOCALHOST, self.port);
-            self.listener = Some(TcpListener::bind(self.rt, address)?);
+            self.listener = Some(bound_at(self.rt, self.listening)?);
         }
         Ok(())
     }
@@ -144,9 +185,9 @@ impl<'a, R: Net<Listener = TcpListener, Stream = TcpStream>> TcpLink<'a, R> {
     }
 }
 
-fn bound_port(listener: &Option<TcpListener>) -> io::Result<u16> {
+fn bound_address(listener: &Option<TcpListener>) -> io::Result<SocketAddr> {
     match listener {
-        Some(listener) => Ok(listener.local_addr()?.port()),
+        Some(listener) => listener.local_addr(),
         None => Err(ErrorKind::NotConnected.into()),
     }
 }
@@ -177,25 +218,27 @@ fn is_of_a_peer(kind: ErrorKind) -> bool {
     )
 }
 
-/// The port that comes so many behind this one, where there is one.
-fn port_behind(port: u16, node: u8) -> Option<u16>
-    ensures { MatchOption result (2 ^ 16 ≤ port + node) (λ behind. behind ≡ port + node) }
-{
-    port.checked_add(u16::from(node))
-}
-
-/// Connects to the port of 127.0.0.1 that comes so many behind this one. Small messages go out at once.
+/// Connects to a node, each call within so many milliseconds. Small messages go out at once.
 fn connected<R: Net<Listener = TcpListener, Stream = TcpStream>>(
     rt: &R,
-    port: u16,
+    dialing: Dialing<'_>,
     node: u8,
+    limit: u32,
 ) -> io::Result<TcpStream> {
-    let Some(port) = port_behind(port, node) else {
-        return Err(ErrorKind::InvalidInput.into());
+    let limit = Duration::from_millis(u64::from(limit));
+    let stream = match dialing {
+        Dialing::Above(port) => match port_behind(port, node) {
+            Some(port) => {
+                let address = SocketAddr::from((Ipv4Addr::LOCALHOST, port));
+                TcpStream::connect_timeout(rt, &address, limit)?
+            }
+            None => return Err(ErrorKind::InvalidInput.into()),
+        },
+        Dialing::At(addresses) => match address_of(addresses, node) {
+            Some(address) => connected_to(rt, address, limit)?,
+            None => return Err(ErrorKind::InvalidInput.into()),
+        },
     };
-    let limit = Duration::from_secs(LIMIT);
-    let address = SocketAddr::from((Ipv4Addr::LOCALHOST, port));
-    let stream = TcpStream::connect_timeout(rt, &address, limit)?;
     let _ = stream.set_nodelay(true);
     stream.set_read_timeout(Some(limit))?;
     stream.set_write_timeout(Some(limit))?;
@@ -278,8 +321,8 @@ impl<'a, R: Net<Listener = TcpListener, Stream = TcpStream>> Link for TcpLink<'a
 
     ghost faults = { λ l. l.faults };
 
-    /// Binds the port where it isn't bound, closes the connection of the peer that was there, and waits for the next.
-    /// It never answers false. A call that fails leaves no peer, once the port is bound.
+    /// Binds the address where it isn't bound, closes the connection of the peer that was there, and waits for the next.
+    /// It never answers false. A call that fails leaves no peer, once the address is bound.
     fn next_peer(&mut self) -> Result<bool, Failed>
         ensures cause { HasCause self.old.faults self.new.faults result }
         ensures did { self.new.did.events ≡ after_next result self.old.did.events }
@@ -351,9 +394,10 @@ impl<'a, R: Net<Listener = TcpListener, Stream = TcpStream>> Link for TcpLink<'a
 }
 
 impl<'a, R: Net<Listener = TcpListener, Stream = TcpStream>> Dial for TcpLink<'a, R> {
-    /// Closes the connection of the peer that was there, and dials the port of 127.0.0.1 that comes as many behind the
-    /// link's own as the node's number. The link's own port isn't bound by it. It fails where nobody takes the call
-    /// within 10 seconds, and then there is no peer: each read and write fails.
+    /// Closes the connection of the peer that was there, and dials the node where the link has it. A name is looked up by
+    /// the system's resolver at each dial, whose time isn't bounded; its addresses are tried in the order in which they come.
+    /// The address where the link listens isn't bound by it. It fails where nobody takes the call within the link's limit,
+    /// for each of the addresses, and then there is no peer: each read and write fails.
     fn dial(&mut self, node: u8) -> Result<(), Failed>
         ensures cause { HasCause self.old.faults self.new.faults result }
         ensures did { self.new.did.events ≡ after_dial result node self.old.did.events }
@@ -362,7 +406,7 @@ impl<'a, R: Net<Listener = TcpListener, Stream = TcpStream>> Dial for TcpLink<'a
     {
         self.present = Peer::Dialed(None);
         self.tried.dials(node);
-        let answer = connected(self.rt, self.port, node);
+        let answer = connected(self.rt, self.dialing, node, self.limit);
         let stream = self.count(answer)?;
         self.present = Peer::Dialed(Some(stream));
         self.did.note(&[1, u64::from(node)], &[]);

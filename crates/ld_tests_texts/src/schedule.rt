@@ -16,7 +16,7 @@ fn parts_of(event: &Event) -> (u8, u64, u64) {
     }
 }
 
-/// What a line is: 0 and the place where it is off, or its event's numbers.
+/// What a line is: 0 and the byte offset of its syntax error, or its event's numbers.
 fn parts(alloc: Global, line: &[u8]) -> Result<(u8, u64, u64), LineFault> {
     match &parse_line(alloc, line) {
         Ok(event) => Ok(parts_of(event)),

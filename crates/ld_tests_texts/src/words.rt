@@ -1,6 +1,6 @@
 // Words and the command that they ask for, one line for each command. Words that ask for none stand in tools/lines.py, for the built program.
 use ld_msg::Style;
-use ld_words::{Command, LogWords, NodeWords, Places, places, read, reason};
+use ld_words::{Command, Listen, LogWords, NodeWords, Places, Reach, places, read, reason};
 use std::alloc::Global;
 use std::test::Fail;
 
@@ -13,12 +13,28 @@ fn words_of(alloc: Global, line: &str) -> Result<Vec<String>, Fail> {
     Ok(words)
 }
 
+/// The port of 127.0.0.1 that a node listens at; 100,000 where it listens at an address.
+fn of_listen(listen: &Listen) -> u64 {
+    match listen {
+        Listen::Port(port) => u64::from(*port),
+        Listen::At(_) => 100_000,
+    }
+}
+
+/// The port below those of the nodes; 100,000 where they have addresses.
+fn of_reach(reach: &Reach) -> u64 {
+    match reach {
+        Reach::Above(port) => u64::from(*port),
+        Reach::At(_) => 100_000,
+    }
+}
+
 /// The numbers of a node's words.
 fn of_node(node: &NodeWords) -> [u64; 7] {
     [
         3,
         u64::from(node.id.number()),
-        u64::from(node.port),
+        of_listen(&node.listen),
         u64::from(node.turns),
         u64::from(node.format),
         0,
@@ -31,7 +47,7 @@ fn of_log(kind: u64, words: &LogWords, style: u64, from: u64, until: u64) -> [u6
     [
         kind,
         u64::from(words.log.number()),
-        u64::from(words.port),
+        of_reach(&words.reach),
         u64::from(words.rounds),
         style,
         from,
@@ -100,36 +116,93 @@ fn words_ask_for_commands(rt: HostRuntime) -> Result<(), Fail> {
     Ok(())
 }
 
-/// The places that the line names: whether the store's file and the register's are those, and the port; 0 where it names none.
-fn named(alloc: Global, line: &str) -> Result<(bool, bool, u16), Fail> {
+/// The places that the line names: whether the store's file and the register's are those, the port where it listens or
+/// the one below those of the nodes, and the limit; 0 where it names none.
+fn named(alloc: Global, line: &str) -> Result<(bool, bool, u64, u32), Fail> {
     let words = words_of(alloc, line)?;
-    match &places(alloc, &words)? {
-        Some(
-            Places {
-                store: Some(store),
-                register,
-                port,
-            },
-        ) => Ok((store.as_str() == "s", register.as_str() == "r", *port)),
-        Some(
-            Places {
-                store: None,
-                register,
-                port,
-            },
-        ) => Ok((false, register.as_str() == "r", *port)),
-        None => Ok((false, false, 0)),
+    let Some(places) = places(alloc, &words)? else {
+        return Ok((false, false, 0, 0));
+    };
+    let there = places.register.as_str() == "r";
+    match &places.store {
+        Some(store) => Ok((store.as_str() == "s", there, of_listen(&places.listen), 0)),
+        None => Ok((false, there, of_reach(&places.reach), places.limit)),
     }
 }
+
+const AT: &str =
+    "append --config {\"nodes\":[3,1,16],\"logs\":[{\"id\":1,\"set\":[1],\"r\":1}]} --register r --rounds=1 --log=1 --limit 100 --at {\"16\":\"logs-3.example:1\",\"1\":\"10.0.0.1:65535\",\"3\":\"[2001:db8::2]:7401\"}";
 
 #[test]
 fn places_of_commands(rt: HostRuntime) -> Result<(), Fail> {
     for (line, expected) in [
-        (NODE, (true, true, 65_535)),
-        (TAIL, (false, true, 7_000)),
-        ("replay", (false, false, 0)),
+        (NODE, (true, true, 65_535, 0)),
+        (TAIL, (false, true, 7_000, 10_000)),
+        (AT, (false, true, 100_000, 100)),
+        ("replay", (false, false, 0, 0)),
     ] {
         assert_eq!(rt; named(rt.alloc(), line)?, expected);
+    }
+    Ok(())
+}
+
+/// Whether the line's address at this place, counted from 0, is this node's, and this text.
+fn is_at(alloc: Global, line: &str, place: usize, node: u8, text: &str) -> Result<bool, Fail> {
+    let words = words_of(alloc, line)?;
+    let Some(places) = places(alloc, &words)? else {
+        return Ok(false);
+    };
+    let Reach::At(addresses) = &places.reach else {
+        return Ok(false);
+    };
+    match addresses.as_slice().get(place) {
+        Some(of) => Ok(of.node.number() == node && of.address.as_str() == text),
+        None => Ok(false),
+    }
+}
+
+#[test]
+fn nodes_have_their_addresses(rt: HostRuntime) -> Result<(), Fail> {
+    for (place, node, text) in [
+        (0, 1, "10.0.0.1:65535"),
+        (1, 3, "[2001:db8::2]:7401"),
+        (2, 16, "logs-3.example:1"),
+    ] {
+        assert!(rt; is_at(rt.alloc(), AT, place, node, text)?);
+    }
+    assert!(rt; !is_at(rt.alloc(), AT, 3, 16, "logs-3.example:1")?);
+    Ok(())
+}
+
+/// Whether the words of a node that listens there ask for a node that listens at just this address.
+fn listens(alloc: Global, address: &str) -> Result<bool, Fail> {
+    let mut words = words_of(
+        alloc,
+        "node --config {\"nodes\":[1],\"logs\":[{\"id\":1,\"set\":[1],\"r\":1}]} --store s --register r --id 1 --turns 1 --listen",
+    )?;
+    words.push(address.to_string(alloc)?)?;
+    match places(alloc, &words)? {
+        Some(places) => match &places.listen {
+            Listen::At(of) => Ok(of.as_str() == address),
+            Listen::Port(_) => Ok(false),
+        },
+        None => Ok(false),
+    }
+}
+
+#[test]
+fn a_node_listens_at_an_address(rt: HostRuntime) -> Result<(), Fail> {
+    for (address, expected) in [
+        ("0.0.0.0:0", true),
+        ("[::]:7401", true),
+        ("[fe80::1%2]:65535", true),
+        ("a:0", true),
+        ("Node_1.logs-3.example:65535", true),
+        ("10.0.0.300:7401", false),
+        ("::1:7401", false),
+        ("a:07401", false),
+    ] {
+        assert!(rt; listens(rt.alloc(), address)? == expected);
     }
     Ok(())
 }

@@ -33,7 +33,7 @@ none_asked words h command asks =
     let some = asks.is in
     absurd cc
 
--- the words ask for what was found in them
+-- the arguments ask for what was found in them
 pub asked_as : (words : List Text) (o : Option (Text × List Row)) (r : Result Command Refusal) → found words ≡ o
     → MatchResult r (IsFound o) (Refuses ((c : Command) → IsFound o c → ⊥))
     → MatchResult r (Asks words) (Refuses (IsNoCommand words))

@@ -14,9 +14,14 @@ use Rattle.ld_words.specs.declared.command.LogWords.{LogWords}
 use Rattle.ld_words.specs.declared.command.AppendWords.{AppendWords}
 use Rattle.ld_words.specs.declared.command.TailWords.{TailWords}
 use Rattle.ld_words.specs.declared.command.Places.{Places}
+use Rattle.ld_words.specs.declared.address.Listen.{Listen}
+use Rattle.ld_words.specs.declared.address.Listen.TheVariants as listens
+use Rattle.ld_words.specs.declared.address.Reach.{Reach}
+use Rattle.ld_words.specs.declared.address.Reach.TheVariants as reaches
 use Rattle.ld_words.specs.declared.command.Command.{Command}
 use Rattle.ld_words.specs.declared.command.Command.TheVariants.{Replay, Exercise, Node, Append, Tail}
-use Rattle.ld_words.specs.Meaning.{Is, IsNumber, IsLsn, IsConfig, Says, IsMember, IsLogOf, AreFiles, IsNodeWords, IsLogWords, IsAppendWords, IsRange, IsTailWords, IsNamed, Asks, ArePlacesOf, HasNoPlaces, AskForPlaces, AskForNoPlaces}
+use Rattle.ld_words.specs.Meaning.{Is, IsNumber, IsLsn, IsConfig, Says, IsMember, IsLogOf, AreFiles, IsNodeWords, IsLogWords, IsAppendWords, IsRange, IsTailWords, IsListen, IsReach, Spells, IsNamed, Asks, ArePlacesOf, HasNoPlaces, AskForPlaces, AskForNoPlaces}
+use Rattle.ld_words.proofs.OneAddress.{one_at}
 
 -- an argument has one value
 one_text : (name : Text) (rows : List Row) (a b : Text) → Is name rows a → Is name rows b → a ≡ b
@@ -53,9 +58,30 @@ pub no_member : (rows : List Row) (id : ℕ) (text : Text) (config : Config) →
     → Says text config → (n : NodeWords) → IsNodeWords rows n → (IsMember id config → ⊥) → ⊥
 no_member rows id text config number is says n words none = none (member_of rows id text config n number is says words)
 
-node_of : ℕ → Config → Text → Text → ℕ → ℕ → Bool → NodeWords
-node_of id config store register port turns format =
-    record { id = id; config = config; store = store; register = register; port = port; turns = turns; format = format }
+-- a node listens in one way, and the nodes are reached in one way
+one_listen : (rows : List Row) (l m : Listen) → IsListen rows l → IsListen rows m → l ≡ m
+one_listen rows (listens.Port p) (listens.Port q) x y = ap listens.Port (one_number _ rows 0 65535 p q (omega arith) x.0 y.0)
+one_listen rows (listens.Port p) (listens.At b) x y = let e : None ≡ Some (decimal p) = sym y.0 ∙ x.0.text in absurd cc
+one_listen rows (listens.At a) (listens.Port q) x y = let e : None ≡ Some (decimal q) = sym x.0 ∙ y.0.text in absurd cc
+one_listen rows (listens.At a) (listens.At b) x y = ap listens.At (one_text _ rows a b x.1 y.1)
+
+one_reach : (rows : List Row) (nodes : List Bool) (r s : Reach) → IsReach rows nodes r → IsReach rows nodes s → r ≡ s
+one_reach rows nodes (reaches.Above p) (reaches.Above q) x y = ap reaches.Above (one_number _ rows 1 65519 p q (omega arith) x.0 y.0)
+one_reach rows nodes (reaches.Above p) (reaches.At b) x y = let e : None ≡ Some (decimal p) = sym y.0 ∙ x.0.text in absurd cc
+one_reach rows nodes (reaches.At a) (reaches.Above q) x y = let e : None ≡ Some (decimal q) = sym x.0 ∙ y.0.text in absurd cc
+one_reach rows nodes (reaches.At a) (reaches.At b) x y = ap reaches.At (one_at rows nodes a b x.1 y.1)
+
+one_spelt : (text : Text) (least most m n : ℕ) → most ≤ 2 ^ 64 - 1 → Spells text least most m → Spells text least most n → m ≡ n
+one_spelt text least most m n small x y = decimal_injective m n (omega (arith, small, x.to)) (omega (arith, small, y.to)) (sym x.digits ∙ y.digits)
+
+one_of : (o : Option Text) (least most otherwise m n : ℕ) → most ≤ 2 ^ 64 - 1 → MatchOption o (m ≡ otherwise) (λ text. Spells text least most m)
+    → MatchOption o (n ≡ otherwise) (λ text. Spells text least most n) → m ≡ n
+one_of None least most otherwise m n small x y = x ∙ sym y
+one_of (Some text) least most otherwise m n small x y = one_spelt text least most m n small x y
+
+node_of : ℕ → Config → Text → Text → Listen → ℕ → Bool → NodeWords
+node_of id config store register listen turns format =
+    record { id = id; config = config; store = store; register = register; listen = listen; turns = turns; format = format }
 
 congruent : {A B C D E F G X : Type 0} (f : A → B → C → D → E → F → G → X) (a b : A) (c d : B) (g h : C) (i j : D) (k l : E) (m n : F) (o p : G)
     → a ≡ b → c ≡ d → g ≡ h → i ≡ j → k ≡ l → m ≡ n → o ≡ p → f a c g i k m o ≡ f b d h j l n p
@@ -64,12 +90,12 @@ congruent f a b c d g h i j k l m n o p e1 e2 e3 e4 e5 e6 e7 = cc
 one_node : (rows : List Row) (a b : NodeWords) → IsNodeWords rows a → IsNodeWords rows b → a ≡ b
 unfolding node_of
 one_node rows a b x y =
-    congruent node_of a.id b.id a.config b.config a.store b.store a.register b.register a.port b.port a.turns b.turns a.format b.format
+    congruent node_of a.id b.id a.config b.config a.store b.store a.register b.register a.listen b.listen a.turns b.turns a.format b.format
     (one_number _ rows 1 16 a.id b.id (omega arith) x.id y.id)
     (one_config _ rows a.config b.config x.config y.config)
     (one_text _ rows a.store b.store x.files.first y.files.first)
     (one_text _ rows a.register b.register x.files.second y.files.second)
-    (one_number _ rows 0 65535 a.port b.port (omega arith) x.port y.port)
+    (one_listen rows a.listen b.listen x.listen y.listen)
     (one_number _ rows 1 1000000000 a.turns b.turns (omega arith) x.turns y.turns)
     (x.format ∙ sym y.format)
 
@@ -97,6 +123,13 @@ pub no_log : (rows : List Row) (log : ℕ) (text : Text) (config : Config) → I
     → Says text config → (w : LogWords) → IsLogWords rows w → (IsLogOf log config → ⊥) → ⊥
 no_log rows log text config number is says w words none = none (log_in rows log text config w number is says words)
 
+-- the same of addresses that are refused
+pub no_log_reach : (rows : List Row) (text : Text) (config : Config) → Is (codes "config") rows text → Says text config → (w : LogWords) → IsLogWords rows w
+    → ((r : Reach) → IsReach rows config.nodes r → ⊥) → ⊥
+no_log_reach rows text config is says w words none =
+    let same = one_config _ rows w.config config words.config (record { text = text; is = is; says = says }) in
+    none w.reach (subst (λ c. IsReach rows c.nodes w.reach) same words.reach)
+
 -- the arguments' first and last number are in the order of each range that they say
 pub first_of_range : (rows : List Row) (v first last : ℕ) → IsLsn (codes "from") rows v → IsRange rows first last → 1 ≤ v
 first_of_range rows v first last x range =
@@ -109,22 +142,24 @@ last_of_range rows v w first last x y range =
     let f = one_lsn _ rows last w range.until y in
     omega (arith, e, f, range.order)
 
-log_of : Config → ℕ → Text → ℕ → ℕ → LogWords
-log_of config log register port rounds = record { config = config; log = log; register = register; port = port; rounds = rounds }
+log_of : Config → ℕ → Text → Reach → ℕ → ℕ → LogWords
+log_of config log register reach rounds limit = record { config = config; log = log; register = register; reach = reach; rounds = rounds; limit = limit }
 
-fivefold : {A B C X : Type 0} (f : A → B → C → B → B → X) (a b : A) (c d : B) (g h : C) (i j k l : B)
-    → a ≡ b → c ≡ d → g ≡ h → i ≡ j → k ≡ l → f a c g i k ≡ f b d h j l
-fivefold f a b c d g h i j k l e1 e2 e3 e4 e5 = cc
+sixfold : {A B C D X : Type 0} (f : A → B → C → D → B → B → X) (a b : A) (c d : B) (g h : C) (i j : D) (k l m n : B)
+    → a ≡ b → c ≡ d → g ≡ h → i ≡ j → k ≡ l → m ≡ n → f a c g i k m ≡ f b d h j l n
+sixfold f a b c d g h i j k l m n e1 e2 e3 e4 e5 e6 = cc
 
 one_log : (rows : List Row) (a b : LogWords) → IsLogWords rows a → IsLogWords rows b → a ≡ b
 unfolding log_of
 one_log rows a b x y =
-    fivefold log_of a.config b.config a.log b.log a.register b.register a.port b.port a.rounds b.rounds
-    (one_config _ rows a.config b.config x.config y.config)
+    let configs = one_config _ rows a.config b.config x.config y.config in
+    sixfold log_of a.config b.config a.log b.log a.register b.register a.reach b.reach a.rounds b.rounds a.limit b.limit
+    configs
     (one_number _ rows 1 65535 a.log b.log (omega arith) x.log y.log)
     (one_text _ rows a.register b.register x.register y.register)
-    (one_number _ rows 1 65519 a.port b.port (omega arith) x.port y.port)
+    (one_reach rows b.config.nodes a.reach b.reach (subst (λ c. IsReach rows c.nodes a.reach) configs x.reach) y.reach)
     (one_number _ rows 1 1000000 a.rounds b.rounds (omega arith) x.rounds y.rounds)
+    (one_of _ 100 60000 10000 a.limit b.limit (omega arith) x.limit y.limit)
 
 one_append : (rows : List Row) (a b : AppendWords) → IsAppendWords rows a → IsAppendWords rows b → a ≡ b
 one_append rows a b x y = ap₂ (λ w s. record { of = w; batches = s }) (one_log rows a.of b.of x.of y.of) (x.batches ∙ sym y.batches)
@@ -181,7 +216,7 @@ one_command words a b x y =
     let meaning = subst (λ p. IsNamed p.0 p.1 a) pairs x.meaning in
     one_named y.name y.rows a b meaning y.meaning
 
--- the places of the command that the words ask for are those of the words
+-- the places of the command that the arguments ask for are those of the words
 pub asked_places : (words : List Text) (command : Command) (places : Option Places) → Asks words command
     → MatchOption places (HasNoPlaces command) (ArePlacesOf command) → MatchOption places (AskForNoPlaces words) (AskForPlaces words)
 asked_places words command None asks none = λ other also. subst HasNoPlaces (one_command words command other asks also) none

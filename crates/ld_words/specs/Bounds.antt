@@ -1,16 +1,25 @@
--- What holds of each command that the words ask for.
-use Rattle.std.specs.Prelude.{◌≡◌, ◌≤◌, true}
+-- What holds of each command that the arguments ask for.
+use Rattle.std.specs.Prelude.{◌≡◌, ◌≤◌, List, Bool, true, map}
+use Rattle.ld_ids.specs.Set.{members}
 use Rattle.ld_config.specs.Bounds.{IsInBounds}
 use Rattle.ld_words.specs.declared.command.LogWords.{LogWords}
 use Rattle.ld_words.specs.declared.command.TailWords.{TailWords}
 use Rattle.ld_words.specs.declared.command.Command.{Command}
 use Rattle.ld_words.specs.declared.command.Command.TheVariants.{Replay, Exercise, Node, Append, Tail}
+use Rattle.ld_words.specs.declared.address.Reach.{Reach}
+use Rattle.ld_words.specs.declared.address.Reach.TheVariants as reaches
 use Rattle.ld_words.specs.Meaning.{has_log}
 
--- the configuration is in its bounds, and the log is one of its logs
+-- where addresses are given, each of the nodes has its own one, and nobody else has
+abbrev pub HasEach : List Bool → Reach → Type 0
+HasEach nodes (reaches.Above port) = Unit {0}
+HasEach nodes (reaches.At addresses) = map (λ a. a.node) addresses ≡ members nodes
+
+-- the configuration is in its bounds, the log is one of its logs, and each of its nodes can be found
 pub record IsLogInBounds (w : LogWords) : Type 0 where
   pub config : IsInBounds w.config
   pub log : has_log w.config w.log ≡ true
+  pub nodes : HasEach w.config.nodes w.reach
 
 -- the same, and there is some number from the first to the last
 pub record IsTailInBounds (t : TailWords) : Type 0 where

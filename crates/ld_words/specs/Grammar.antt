@@ -12,6 +12,10 @@ use Rattle.clap.specs.declared.builder.command.Command.TheViews.{out-Command as 
 abbrev pub option_rule : Text → Rule
 option_rule name = record (new_rule name) { long = Some name; required = true }
 
+-- an option with a value, which may be left out
+abbrev pub choice_rule : Text → Rule
+choice_rule name = record (new_rule name) { long = Some name }
+
 -- an option with no value, which may be left out
 abbrev pub flag_rule : Text → Rule
 flag_rule name = record (new_rule name) { long = Some name; action = Some SetTrue }
@@ -30,26 +34,26 @@ files_shape = record (new_shape (codes "node")) {
 abbrev pub node_shape : Shape
 node_shape = record (new_shape (codes "node")) {
   rules = option_rule (codes "id") ∷ option_rule (codes "config") ∷ option_rule (codes "store") ∷ option_rule (codes "register")
-      ∷ option_rule (codes "port") ∷ option_rule (codes "turns") ∷ flag_rule (codes "format") ∷ [];
+      ∷ choice_rule (codes "port") ∷ choice_rule (codes "listen") ∷ option_rule (codes "turns") ∷ flag_rule (codes "format") ∷ [];
 }
 
 -- a command over a log
 abbrev pub log_shape : Text → Shape
 log_shape name = record (new_shape name) {
-  rules = option_rule (codes "config") ∷ option_rule (codes "log") ∷ option_rule (codes "register") ∷ option_rule (codes "port")
-      ∷ option_rule (codes "rounds") ∷ [];
+  rules = option_rule (codes "config") ∷ option_rule (codes "log") ∷ option_rule (codes "register")
+      ∷ choice_rule (codes "port") ∷ choice_rule (codes "at") ∷ option_rule (codes "rounds") ∷ choice_rule (codes "limit") ∷ [];
 }
 
 abbrev pub append_shape : Shape
 append_shape = record (new_shape (codes "append")) {
-  rules = option_rule (codes "config") ∷ option_rule (codes "log") ∷ option_rule (codes "register") ∷ option_rule (codes "port")
-      ∷ option_rule (codes "rounds") ∷ flag_rule (codes "batches") ∷ [];
+  rules = option_rule (codes "config") ∷ option_rule (codes "log") ∷ option_rule (codes "register")
+      ∷ choice_rule (codes "port") ∷ choice_rule (codes "at") ∷ option_rule (codes "rounds") ∷ choice_rule (codes "limit") ∷ flag_rule (codes "batches") ∷ [];
 }
 
 abbrev pub tail_shape : Shape
 tail_shape = record (new_shape (codes "tail")) {
-  rules = option_rule (codes "config") ∷ option_rule (codes "log") ∷ option_rule (codes "register") ∷ option_rule (codes "port")
-      ∷ option_rule (codes "rounds") ∷ option_rule (codes "from") ∷ option_rule (codes "until")
+  rules = option_rule (codes "config") ∷ option_rule (codes "log") ∷ option_rule (codes "register")
+      ∷ choice_rule (codes "port") ∷ choice_rule (codes "at") ∷ option_rule (codes "rounds") ∷ choice_rule (codes "limit") ∷ option_rule (codes "from") ∷ option_rule (codes "until")
       ∷ flag_rule (codes "one-copy") ∷ flag_rule (codes "messages") ∷ [];
 }
 
@@ -75,6 +79,6 @@ abbrev pub if_fine : {X : Type 0} → Kinds → Option X → Option X
 if_fine [] found = found
 if_fine (kind ∷ kinds) found = None
 
--- the command that the words name, and the values of its arguments; None where clap finds a fault in the words
+-- the command that the arguments name, and the values of its arguments; None where clap finds a fault in the arguments
 unfoldable pub found : List Text → Option (Text × List Row)
 found words = if_fine (fault_of ld_app words) (subcommand_of ld_app words)

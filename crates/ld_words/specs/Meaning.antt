@@ -1,12 +1,18 @@
--- What the words ask for.
-use Rattle.std.specs.Prelude.{◌≡◌, ◌≢◌, ◌≤◌, ◌<◌, ◌^◌, ◌-◌, ◌==◌, ℕ, List, codes, decimal, Bool, true, false, Option, None, Some, Ok}
+-- What the arguments ask for.
+use Rattle.std.specs.Prelude.{◌≡◌, ◌≢◌, ◌≤◌, ◌<◌, ◌^◌, ◌-◌, ◌==◌, ◌&&◌, ◌||◌, ◌⊎◌, nat_le, ℕ, List, [], ◌∷◌, ◌++◌, length, codes, decimal, Bool, true, false, Option, None, Some, Ok, MatchOption}
 use Rattle.std.specs.Str.{IsUtf8, bytes_eq}
+use Rattle.std.specs.Net.Grammar.{IsSocketText}
+use Rattle.std.specs.Net.Socket.{socket_port}
+use Rattle.std.specs.declared.net.socket_addr.SocketAddr.{SocketAddr}
 use Rattle.clap.specs.Walk.{Row, Text, first_of}
+use Rattle.serde_json.specs.Data.{Data, string, object, Members}
+use Rattle.serde_json.specs.Find.{get}
+use Rattle.serde_json.specs.Events.{members_len}
 use Rattle.serde_json.specs.Read.{read}
-use Rattle.ld_table.specs.Words.{any_of}
+use Rattle.ld_table.specs.Words.{any_of, all_of}
 use Rattle.ld_lsn.specs.Number.{lsn_text}
 use Rattle.ld_ids.specs.Id.{IsNode, IsLog}
-use Rattle.ld_ids.specs.Set.{has_node}
+use Rattle.ld_ids.specs.Set.{has_node, members}
 use Rattle.ld_config.specs.declared.config.Config.{Config}
 use Rattle.ld_config.specs.Config.{config_of_text}
 use Rattle.ld_words.specs.declared.command.NodeWords.{NodeWords}
@@ -16,6 +22,11 @@ use Rattle.ld_words.specs.declared.command.LogWords.{LogWords}
 use Rattle.ld_words.specs.declared.command.AppendWords.{AppendWords}
 use Rattle.ld_words.specs.declared.command.TailWords.{TailWords}
 use Rattle.ld_words.specs.declared.command.Places.{Places}
+use Rattle.ld_words.specs.declared.address.NodeAddress.{NodeAddress}
+use Rattle.ld_words.specs.declared.address.Listen.{Listen}
+use Rattle.ld_words.specs.declared.address.Listen.TheVariants as listens
+use Rattle.ld_words.specs.declared.address.Reach.{Reach}
+use Rattle.ld_words.specs.declared.address.Reach.TheVariants as reaches
 use Rattle.ld_words.specs.declared.command.Command.{Command}
 use Rattle.ld_words.specs.declared.command.Command.TheVariants.{Replay, Exercise, Node, Append, Tail}
 use Rattle.ld_words.specs.Grammar.{found}
@@ -41,6 +52,14 @@ pub record IsNumber (name : Text) (rows : List Row) (least most n : ℕ) : Type 
   pub text : Is name rows (decimal n)
   pub from : least ≤ n
   pub to : n ≤ most
+
+-- the argument is such a number, or isn't given, which represents the number `otherwise`
+abbrev pub IsNumberOr : Text → List Row → (least most otherwise n : ℕ) → Type 0
+IsNumberOr name rows least most otherwise n = MatchOption (first_of name rows) (n ≡ otherwise) (λ text. Spells text least most n)
+
+-- the argument isn't given
+abbrev pub IsAbsent : Text → List Row → Type 0
+IsAbsent name rows = first_of name rows ≡ None
 
 -- the argument is the log sequence number, spelt `eXnY`
 pub record IsLsn (name : Text) (rows : List Row) (lsn : ℕ) : Type 0 where
@@ -76,6 +95,77 @@ pub record IsLogOf (number : ℕ) (config : Config) : Type 0 where
   pub log : IsLog number
   pub has : has_log config number ≡ true
 
+-- ---- addresses
+
+abbrev pub is_letter : ℕ → Bool
+is_letter b = (nat_le 65 b && nat_le b 90) || (nat_le 97 b && nat_le b 122)
+
+-- a letter, a digit, a hyphen, a dot or an underscore
+abbrev pub is_of_name : ℕ → Bool
+is_of_name b = is_letter b || (nat_le 48 b && nat_le b 57) || (b == 45) || (b == 46) || (b == 95)
+
+-- the name of a host: at most 253 such bytes, and a letter among them
+abbrev pub is_host_name : Text → Bool
+is_host_name host = nat_le (length host) 253 && all_of is_of_name host && any_of is_letter host
+
+-- an IPv4 address, or an IPv6 address in brackets, and the port: what is parsed as a `SocketAddr`
+pub record IsIpAndPort (text : Text) (port : ℕ) : Type 0 where
+  pub socket : SocketAddr
+  pub spells : IsSocketText text socket
+  pub port_is : socket_port socket ≡ port
+
+-- the name of a host, a colon and the port in digits without a sign or a leading zero
+pub record IsNameAndPort (text : Text) (port : ℕ) : Type 0 where
+  pub host : Text
+  pub whole : text ≡ host ++ 58 ∷ decimal port
+  pub name : is_host_name host ≡ true
+  pub bits : port < 2 ^ 16
+
+-- the text is an address of this port: an IP address's, or else that of a host by its name
+abbrev pub IsOfPort : Text → ℕ → Type 0
+IsOfPort text port = IsIpAndPort text port ⊎ (((socket : SocketAddr) → IsSocketText text socket → ⊥) × IsNameAndPort text port)
+
+-- the text is an address, HOST:PORT, of a port from this one on
+pub record IsAddress (least : ℕ) (text : Text) : Type 0 where
+  pub port : ℕ
+  pub of : IsOfPort text port
+  pub from : least ≤ port
+
+-- the object has this address for the node, by the node's number, and its port isn't 0
+pub record IsAddressIn (d : Data) (node : ℕ) (a : NodeAddress) : Type 0 where
+  pub node_is : a.node ≡ node
+  pub there : get (decimal node) d ≡ Some (string a.address)
+  pub address_is : IsAddress 1 a.address
+
+-- these are the nodes' addresses in the object, in the order of the nodes
+abbrev pub AreAddressesIn : Data → List ℕ → List NodeAddress → Type 0
+AreAddressesIn d [] [] = Unit {0}
+AreAddressesIn d (n ∷ ns) (a ∷ others) = IsAddressIn d n a × AreAddressesIn d ns others
+AreAddressesIn d _ _ = ⊥
+
+-- the text is a JSON object with the addresses of these nodes, and with no other member: it has as many as there are nodes
+pub record SaysAddresses (text : Text) (nodes : List Bool) (addresses : List NodeAddress) : Type 0 where
+  pub members_of : Members
+  pub reads : read text ≡ Some (object members_of)
+  pub count : members_len members_of ≡ length (members nodes)
+  pub each : AreAddressesIn (object members_of) (members nodes) addresses
+
+-- the argument is such a text
+pub record IsAt (rows : List Row) (nodes : List Bool) (addresses : List NodeAddress) : Type 0 where
+  pub text : Text
+  pub is : Is (codes "at") rows text
+  pub says : SaysAddresses text nodes addresses
+
+-- where a node listens, which one of two arguments says: at a port of 127.0.0.1, or at an address
+abbrev pub IsListen : List Row → Listen → Type 0
+IsListen rows (listens.Port port) = IsNumber (codes "port") rows 0 65535 port × IsAbsent (codes "listen") rows
+IsListen rows (listens.At address) = IsAbsent (codes "port") rows × Is (codes "listen") rows address × IsAddress 0 address
+
+-- where the nodes are, which one of two arguments says: at ports of 127.0.0.1 in a row, or each at its address
+abbrev pub IsReach : List Row → List Bool → Reach → Type 0
+IsReach rows nodes (reaches.Above port) = IsNumber (codes "port") rows 1 65519 port × IsAbsent (codes "at") rows
+IsReach rows nodes (reaches.At addresses) = IsAbsent (codes "port") rows × IsAt rows nodes addresses
+
 -- ---- commands
 
 pub record IsExercise (rows : List Row) (start count : ℕ) : Type 0 where
@@ -93,7 +183,7 @@ pub record IsNodeWords (rows : List Row) (n : NodeWords) : Type 0 where
   pub config : IsConfig (codes "config") rows n.config
   pub member : IsMember n.id n.config
   pub files : AreFiles rows n.store n.register
-  pub port : IsNumber (codes "port") rows 0 65535 n.port
+  pub listen : IsListen rows n.listen
   pub turns : IsNumber (codes "turns") rows 1 1000000000 n.turns
   pub format : n.format ≡ is_true (first_of (codes "format") rows)
 
@@ -102,8 +192,9 @@ pub record IsLogWords (rows : List Row) (w : LogWords) : Type 0 where
   pub log : IsNumber (codes "log") rows 1 65535 w.log
   pub known : IsLogOf w.log w.config
   pub register : Is (codes "register") rows w.register
-  pub port : IsNumber (codes "port") rows 1 65519 w.port
+  pub reach : IsReach rows w.config.nodes w.reach
   pub rounds : IsNumber (codes "rounds") rows 1 1000000 w.rounds
+  pub limit : IsNumberOr (codes "limit") rows 100 60000 10000 w.limit
 
 -- the first and the last number that are read: the first is above e0n0, and the last isn't below it
 pub record IsRange (rows : List Row) (first last : ℕ) : Type 0 where
@@ -136,36 +227,37 @@ IsNamed name rows (Node n) = (name ≡ codes "node") × IsNodeWords rows n
 IsNamed name rows (Append w) = (name ≡ codes "append") × IsAppendWords rows w
 IsNamed name rows (Tail t) = (name ≡ codes "tail") × IsTailWords rows t
 
--- the command is what clap finds in the words
+-- the command is what clap finds in the arguments
 pub record IsFound (found : Option (Text × List Row)) (command : Command) : Type 0 where
   pub name : Text
   pub rows : List Row
   pub is : found ≡ Some (name, rows)
   pub meaning : IsNamed name rows command
 
--- the words ask for this command
+-- the arguments ask for this command
 abbrev pub Asks : List Text → Command → Type 0
 Asks words command = IsFound (found words) command
 
--- the words are no command
+-- the arguments are no command
 abbrev pub IsNoCommand : List Text → Type 0
 IsNoCommand words = (command : Command) → Asks words command → ⊥
 
 -- ---- places
 
--- these are the files and the port of the node
+-- these are the files of the node, and where it listens
 pub record ArePlacesOfNode (n : NodeWords) (places : Places) : Type 0 where
   pub store : places.store ≡ Some n.store
   pub register : places.register ≡ n.register
-  pub port : places.port ≡ n.port
+  pub listen : places.listen ≡ n.listen
 
--- these are the file and the port of the log, which needs no store
+-- these are the file of the log, which needs no store, and where its nodes are
 pub record ArePlacesOfLog (w : LogWords) (places : Places) : Type 0 where
   pub store : places.store ≡ None
   pub register : places.register ≡ w.register
-  pub port : places.port ≡ w.port
+  pub reach : places.reach ≡ w.reach
+  pub limit : places.limit ≡ w.limit
 
--- these are the files and the port of the command
+-- these are the files of the command, and where it listens or dials
 abbrev pub ArePlacesOf : Command → Places → Type 0
 ArePlacesOf Replay places = ⊥
 ArePlacesOf (Exercise seed events) places = ⊥
@@ -173,7 +265,7 @@ ArePlacesOf (Node n) places = ArePlacesOfNode n places
 ArePlacesOf (Append w) places = ArePlacesOfLog w.of places
 ArePlacesOf (Tail t) places = ArePlacesOfLog t.of places
 
--- the command is one that has neither files nor a port
+-- the command is one that has no files, and that neither listens nor dials
 abbrev pub HasNoPlaces : Command → Type 0
 HasNoPlaces Replay = Unit {0}
 HasNoPlaces (Exercise seed events) = Unit {0}
@@ -181,12 +273,12 @@ HasNoPlaces (Node n) = ⊥
 HasNoPlaces (Append w) = ⊥
 HasNoPlaces (Tail t) = ⊥
 
--- the words ask for a command with these files and this port
+-- the arguments ask for a command of these places
 pub record AskForPlaces (words : List Text) (places : Places) : Type 0 where
   pub command : Command
   pub asks : Asks words command
   pub are : ArePlacesOf command places
 
--- the words ask for no command that has places
+-- the arguments ask for no command that has places
 abbrev pub AskForNoPlaces : List Text → Type 0
 AskForNoPlaces words = (command : Command) → Asks words command → HasNoPlaces command

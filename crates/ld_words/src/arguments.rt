@@ -4,7 +4,7 @@ ghost use Rattle.clap.specs.Words.{rows_of, found_of, first_of};
 ghost use Rattle.ld_ids.specs.Set.{has_node};
 ghost use Rattle.ld_config.specs.Bounds.{IsInBounds};
 ghost use Rattle.ld_config.specs.declared.config.Config.{Config as Configuration};
-ghost use Rattle.ld_words.specs.Meaning.{IsNumber, IsLsn, IsMember, IsLogOf, Says, has_log, is_true};
+ghost use Rattle.ld_words.specs.Meaning.{IsNumber, IsNumberOr, IsLsn, IsMember, IsLogOf, Says, has_log, is_true};
 ghost use Rattle.ld_words.specs.Refuses.{Refuses};
 
 use crate::FileName;
@@ -16,8 +16,8 @@ use ld_ids::{LogId, NodeId};
 use ld_lsn::Lsn;
 use std::alloc::Global;
 
-/// The value of an argument, as it stands in the words.
-fn value<'a>(matches: &ArgMatches<'a>, name: &str) -> Option<&'a str>
+/// The value of an argument, as it stands in the arguments.
+pub fn value<'a>(matches: &ArgMatches<'a>, name: &str) -> Option<&'a str>
     ensures { option_map (λ s. s.now) result ≡ first_of name.now (rows_of (found_of matches.now)) }
 {
     matches.get_str(name)
@@ -64,6 +64,27 @@ pub fn number(
     match spelt(text, least, most) {
         Some(number) => Ok(number),
         None => Err(Refusal::Number { name, least, most }),
+    }
+}
+
+/// The number that an argument is, within bounds; where the argument isn't given, the number `otherwise`.
+pub fn number_or(
+    matches: &ArgMatches<'_>,
+    name: &'static str,
+    least: u64,
+    most: u64,
+    otherwise: u64,
+) -> Result<u64, Refusal>
+    ensures { MatchResult result
+        (IsNumberOr name.now (rows_of (found_of matches.now)) least most otherwise)
+        (Refuses ((n : ℕ) → IsNumberOr name.now (rows_of (found_of matches.now)) least most otherwise n → ⊥)) }
+{
+    match value(matches, name) {
+        None => Ok(otherwise),
+        Some(text) => match spelt(text, least, most) {
+            Some(number) => Ok(number),
+            None => Err(Refusal::Number { name, least, most }),
+        },
     }
 }
 

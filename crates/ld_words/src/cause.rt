@@ -1,6 +1,53 @@
-// Why a configuration is refused, for a person.
+// Why a configuration or the addresses of nodes are refused, for a person.
 use ld_config::{ConfigFault, Field};
+use ld_ids::NodeId;
 use std::alloc::{AllocError, Global};
+
+/// Why the addresses of nodes are refused.
+#[derive(Drop)]
+pub enum AddressesFault {
+    /// They are no JSON text: this is the byte offset of the syntax error.
+    NotJson(usize),
+    /// They are no JSON object.
+    NotObject,
+    /// The node of the configuration isn't there.
+    Missing(NodeId),
+    /// The name of a member, which is the number of no node of the configuration.
+    Stranger(String),
+    /// The node's address isn't HOST:PORT.
+    Form(NodeId),
+    /// The node's port is 0.
+    PortZero(NodeId),
+}
+
+/// What is refused of the addresses, and what it has to be.
+pub fn addresses_cause(alloc: Global, fault: &AddressesFault) -> Result<String, AllocError> {
+    match fault {
+        AddressesFault::NotJson(offset) => {
+            format!(in alloc;
+                "--at is refused: it isn't JSON: there is a syntax error at byte offset {offset}"
+            )
+        }
+        AddressesFault::NotObject => format!(in alloc;
+            "--at is refused: it isn't an object from each node's number to its address"
+        ),
+        AddressesFault::Missing(node) => format!(in alloc;
+            "--at is refused: node {} of the configuration has no address",
+            node.number()
+        ),
+        AddressesFault::Stranger(name) => format!(in alloc;
+            "--at is refused: {name:?} is none of the configuration's nodes"
+        ),
+        AddressesFault::Form(node) => format!(in alloc;
+            "--at is refused: the address of node {} isn't HOST:PORT, with an IPv4 address, an IPv6 address in brackets or a name, and a port from 1 to 65535",
+            node.number()
+        ),
+        AddressesFault::PortZero(node) => format!(in alloc;
+            "--at is refused: the port of node {} is 0",
+            node.number()
+        ),
+    }
+}
 
 /// Which part of the configuration is refused, its value, and what it has to be.
 pub fn config_cause(alloc: Global, fault: &ConfigFault) -> Result<String, AllocError> {

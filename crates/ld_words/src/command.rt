@@ -1,11 +1,11 @@
 // The commands.
-use crate::FileName;
+use crate::{FileName, Listen, Reach};
 use ld_config::Config;
 use ld_ids::{LogId, NodeId};
 use ld_lsn::Lsn;
 use ld_msg::Style;
 
-/// What the words ask for.
+/// What the arguments ask for.
 #[derive(Drop)]
 pub enum Command {
     /// A schedule from standard input is run, and its transcript written to standard output.
@@ -21,7 +21,7 @@ pub enum Command {
     Tail(TailWords),
 }
 
-/// What the words say of a node that serves.
+/// What the arguments say of a node that serves.
 #[derive(Drop)]
 pub struct NodeWords {
     /// The node's number, which is among the configuration's nodes.
@@ -32,15 +32,15 @@ pub struct NodeWords {
     pub store: FileName,
     /// The file of the register of epochs, which has another name.
     pub register: FileName,
-    /// The port that the node listens on.
-    pub port: u16,
+    /// Where the node listens.
+    pub listen: Listen,
     /// After how many turns the node ends, 1 to 1,000,000,000.
     pub turns: u32,
     /// Whether a blank store is formatted first.
     pub format: bool,
 }
 
-/// What the words say of a log that is appended to or read.
+/// What the arguments say of a log that is appended to or read.
 #[derive(Drop)]
 pub struct LogWords {
     /// The configuration.
@@ -49,13 +49,15 @@ pub struct LogWords {
     pub log: LogId,
     /// The file of the register of epochs.
     pub register: FileName,
-    /// The port below those of the nodes, 1 to 65,519: node N listens on the Nth port above it.
-    pub port: u16,
+    /// Where the configuration's nodes are.
+    pub reach: Reach,
     /// After how many rounds the command gives up, 1 to 1,000,000.
     pub rounds: u32,
+    /// How many milliseconds a dial, a read or a write takes at most, 100 to 60,000.
+    pub limit: u32,
 }
 
-/// What the words say of a log that is appended to, and how its lines are read.
+/// What the arguments say of a log that is appended to, and how its lines are read.
 #[derive(Drop)]
 pub struct AppendWords {
     /// The log, and how it is reached.
@@ -64,7 +66,7 @@ pub struct AppendWords {
     pub batches: bool,
 }
 
-/// What the words say of a log that is read, and which records of it.
+/// What the arguments say of a log that is read, and which records of it.
 #[derive(Drop)]
 pub struct TailWords {
     /// The log, and how it is reached.
@@ -77,13 +79,17 @@ pub struct TailWords {
     pub style: Style,
 }
 
-/// The things of the outside that a command needs.
+/// The things of the environment that a command needs.
 #[derive(Drop)]
 pub struct Places {
     /// The file of the node's store, where the command is a node.
     pub store: Option<FileName>,
     /// The file of the register of epochs.
     pub register: FileName,
-    /// The port that the node listens on; of a log, the port below those of the nodes.
-    pub port: u16,
+    /// Where the node listens. A command over a log doesn't: it has the port 0 here.
+    pub listen: Listen,
+    /// Where the nodes of a log are. A node dials none: it has the port 0 here.
+    pub reach: Reach,
+    /// How many milliseconds a dial, a read or a write takes at most.
+    pub limit: u32,
 }

@@ -3,7 +3,7 @@ ghost use Rattle.std.specs.Prelude.{◌≡◌, string_bytes};
 
 use std::marker::Model;
 
-/// The name of a file, as it stands in the words. It is seen as its bytes.
+/// The name of a file, as it stands in the arguments. It is seen as its bytes.
 #[derive(Drop)]
 pub struct FileName {
     text: String,

@@ -2,7 +2,7 @@
 ghost use Rattle.std.specs.Prelude.{◌≡◌, IfOk, MatchResult, false, map, string_bytes};
 ghost use Rattle.clap.specs.Words.{app_of, rule_of, subcommand_rows_of};
 ghost use Rattle.clap.specs.Simple.{App, Shape, with_subcommand};
-ghost use Rattle.ld_words.specs.Grammar.{option_rule, flag_rule, exercise_shape, files_shape, node_shape, log_shape, append_shape, tail_shape, ld_app, found, IsCommand};
+ghost use Rattle.ld_words.specs.Grammar.{option_rule, choice_rule, flag_rule, exercise_shape, files_shape, node_shape, log_shape, append_shape, tail_shape, ld_app, found, IsCommand};
 ghost use Rattle.ld_words.specs.Meaning.{IsNoCommand};
 ghost use Rattle.ld_words.specs.Refuses.{Refuses};
 
@@ -17,6 +17,14 @@ fn option<'a>(alloc: Global, name: &'a str) -> Arg<'a>
     ensures own { result.global ≡ false }
 {
     Arg::new(alloc, name).long(name).required(true)
+}
+
+/// An option with a value, which may be left out.
+fn choice<'a>(alloc: Global, name: &'a str) -> Arg<'a>
+    ensures rule { rule_of result ≡ choice_rule name.now }
+    ensures own { result.global ≡ false }
+{
+    Arg::new(alloc, name).long(name)
 }
 
 /// An option with no value, which may be left out.
@@ -52,7 +60,8 @@ fn node_command<'a>(alloc: Global) -> Result<Command<'a>, AllocError>
     ensures { IfOk result (IsCommand node_shape) }
 {
     files_command(alloc)?
-        .arg(option(alloc, "port"))?
+        .arg(choice(alloc, "port"))?
+        .arg(choice(alloc, "listen"))?
         .arg(option(alloc, "turns"))?
         .arg(flag(alloc, "format"))
 }
@@ -65,8 +74,10 @@ fn log_command<'a>(alloc: Global, name: &'a str) -> Result<Command<'a>, AllocErr
         .arg(option(alloc, "config"))?
         .arg(option(alloc, "log"))?
         .arg(option(alloc, "register"))?
-        .arg(option(alloc, "port"))?
-        .arg(option(alloc, "rounds"))
+        .arg(choice(alloc, "port"))?
+        .arg(choice(alloc, "at"))?
+        .arg(option(alloc, "rounds"))?
+        .arg(choice(alloc, "limit"))
 }
 
 /// The command that appends to a log.
@@ -126,7 +137,7 @@ fn ld_command<'a>(alloc: Global) -> Result<Command<'a>, AllocError>
     add(with_append, tail_command(alloc))
 }
 
-/// What clap finds in the words.
+/// What clap finds in the arguments.
 pub fn matches<'a>(alloc: Global, words: &'a [String]) -> Result<ArgMatches<'a>, Refusal>
     ensures { MatchResult result (λ m. found (map string_bytes words.now) ≡ subcommand_rows_of m) (Refuses (IsNoCommand (map string_bytes words.now))) }
 {

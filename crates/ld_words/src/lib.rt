@@ -1,16 +1,20 @@
-//! The words of the command line: which command they ask for, and why they are none.
+//! The command-line arguments: which command they ask for, and why they are none.
 #![tactic(auto)]
 
+mod address;
 mod arguments;
 mod cause;
 mod command;
 mod file_name;
 mod grammar;
+mod host;
 mod law;
 mod number;
+mod reach;
 mod refusal;
 mod words;
 
+pub use address::{Address, Addresses, Listen, NodeAddress, Reach};
 pub use cause::config_cause;
 pub use command::{AppendWords, Command, LogWords, NodeWords, Places, TailWords};
 pub use file_name::FileName;

@@ -1,14 +1,14 @@
-// Why the words are no command.
+// Why the arguments are no command.
 ghost use Rattle.std.specs.Prelude.{◌≡◌, ◌≢◌, MatchBool};
 ghost use Rattle.ld_words.specs.declared.refusal.Refusal.TheVariants.{NoMemory as Memory};
 
-use crate::cause::config_cause;
+use crate::cause::{AddressesFault, addresses_cause, config_cause};
 use clap::Error;
 use ld_config::ConfigFault;
 use ld_ids::{LogId, NoMemory, NodeId};
 use std::alloc::{AllocError, Global};
 
-/// Why the words are no command.
+/// Why the arguments are no command.
 #[derive(Drop)]
 pub enum Refusal {
     /// They are none by their form: an unknown word, one too many, one that is missing.
@@ -35,6 +35,22 @@ pub enum Refusal {
     StrangeLog(LogId),
     /// The store and the register are the same file.
     OneFile,
+    /// None of two arguments is given, of which one has to be.
+    Neither {
+        one: &'static str,
+        other: &'static str,
+    },
+    /// Two arguments are given, of which one may be.
+    Both {
+        one: &'static str,
+        other: &'static str,
+    },
+    /// The argument's value is no address.
+    Address {
+        name: &'static str,
+    },
+    /// The addresses of nodes are refused.
+    Addresses(AddressesFault),
     /// The first number that is to be read is 0, or above the last.
     Order,
     /// One copy of each record is asked for, and messages too.
@@ -74,6 +90,16 @@ impl Refusal {
                 log.number()
             ),
             Refusal::OneFile => String::from_str(alloc, "--store and --register are the same file"),
+            Refusal::Neither { one, other } => {
+                format!(in alloc; "one of --{one} and --{other} has to be given")
+            }
+            Refusal::Both { one, other } => {
+                format!(in alloc; "--{one} and --{other} can't be given at once")
+            }
+            Refusal::Address { name } => format!(in alloc;
+                "--{name} isn't HOST:PORT, with an IPv4 address, an IPv6 address in brackets or a name, and a port from 0 to 65535"
+            ),
+            Refusal::Addresses(fault) => addresses_cause(alloc, fault),
             Refusal::Order => String::from_str(alloc, "--from is e0n0 or above --until"),
             Refusal::Styles => String::from_str(
                 alloc,

@@ -1,4 +1,4 @@
-// The command that the words ask for.
+// The command that the arguments ask for.
 ghost use Rattle.std.specs.Prelude.{◌≡◌, ℕ, None, Some, IfOk, MatchOption, MatchResult, IfSome, codes, map, string_bytes};
 ghost use Rattle.clap.specs.Walk.{Text};
 ghost use Rattle.clap.specs.Words.{rows_of, found_of, first_of, subcommand_rows_of};
@@ -12,10 +12,13 @@ ghost use Rattle.ld_words.specs.Meaning.{IsExercise, AreFiles, IsNodeWords, IsLo
 ghost use Rattle.ld_words.specs.Refuses.{Refuses};
 ghost use Rattle.ld_words.specs.Bounds.{IsLogInBounds, IsTailInBounds, HasBounds};
 
-use crate::arguments::{config, file_name, flag, log_of, lsn, member, number, text};
+use crate::arguments::{config, file_name, flag, log_of, lsn, member, number, number_or, text};
 use crate::grammar::matches;
+use crate::reach::{listen, reach};
 use crate::refusal::Refusal;
-use crate::{AppendWords, Command, FileName, LogWords, NodeWords, Places, TailWords};
+use crate::{
+    AppendWords, Command, FileName, Listen, LogWords, NodeWords, Places, Reach, TailWords,
+};
 use clap::ArgMatches;
 use ld_ids::NoMemory;
 use ld_lsn::Lsn;
@@ -47,14 +50,14 @@ fn node_words(alloc: Global, matches: &ArgMatches<'_>) -> Result<NodeWords, Refu
     let config = config(alloc, text(matches, "config")?)?;
     let id = member(id, &config)?;
     let (store, register) = files(alloc, matches)?;
-    let port = number(matches, "port", 0, 65_535)?;
+    let listen = listen(alloc, matches)?;
     let turns = number(matches, "turns", 1, 1_000_000_000)?;
     Ok(NodeWords {
         id,
         config,
         store,
         register,
-        port: port as u16,
+        listen,
         turns: turns as u32,
         format: flag(matches, "format"),
     })
@@ -71,14 +74,16 @@ fn log_words(alloc: Global, matches: &ArgMatches<'_>) -> Result<LogWords, Refusa
     let config = config(alloc, text(matches, "config")?)?;
     let log = log_of(log, &config)?;
     let register = file_name(alloc, matches, "register")?;
-    let port = number(matches, "port", 1, 65_519)?;
+    let reach = reach(alloc, matches, &config.nodes)?;
     let rounds = number(matches, "rounds", 1, 1_000_000)?;
+    let limit = number_or(matches, "limit", 100, 60_000, 10_000)?;
     Ok(LogWords {
         config,
         log,
         register,
-        port: port as u16,
+        reach,
         rounds: rounds as u32,
+        limit: limit as u32,
     })
 }
 
@@ -191,7 +196,7 @@ fn command(alloc: Global, matches: &ArgMatches<'_>) -> Result<Command, Refusal>
     }
 }
 
-/// The command that the words ask for, or why there is none.
+/// The command that the arguments ask for, or why there is none.
 fn try_read(alloc: Global, words: &[String]) -> Result<Command, Refusal>
     ensures asks { MatchResult result (Asks (map string_bytes words.now)) (Refuses (IsNoCommand (map string_bytes words.now))) }
     ensures bounds { IfOk result HasBounds }
@@ -200,7 +205,7 @@ fn try_read(alloc: Global, words: &[String]) -> Result<Command, Refusal>
     command(alloc, &matches)
 }
 
-/// Reads the words of the command line, which are without the program's name. None exactly where they ask for no command;
+/// Reads the command-line arguments, which are without the program's name. None exactly where they ask for no command;
 /// `NoMemory` is the one fault.
 pub fn read(alloc: Global, words: &[String]) -> Result<Option<Command>, NoMemory>
     ensures asks { IfOk result (λ command. MatchOption command (IsNoCommand (map string_bytes words.now)) (Asks (map string_bytes words.now))) }
@@ -217,7 +222,7 @@ pub fn read(alloc: Global, words: &[String]) -> Result<Option<Command>, NoMemory
     }
 }
 
-/// The files and the port of a command that has some.
+/// The files of a command that has some, and where it listens or dials.
 fn places_of(command: Command) -> Option<Places>
     ensures { MatchOption result (HasNoPlaces command) (ArePlacesOf command) }
 {
@@ -226,26 +231,30 @@ fn places_of(command: Command) -> Option<Places>
         Command::Node(node) => Some(Places {
             store: Some(node.store),
             register: node.register,
-            port: node.port,
+            listen: node.listen,
+            reach: Reach::Above(0),
+            limit: 10_000,
         }),
         Command::Append(words) => Some(log_places(words.of)),
         Command::Tail(words) => Some(log_places(words.of)),
     }
 }
 
-/// The file and the port of a command over a log, which has no store.
+/// The file of a command over a log, which has no store, and where its nodes are.
 fn log_places(words: LogWords) -> Places
     ensures { ArePlacesOfLog words result }
 {
     Places {
         store: None,
         register: words.register,
-        port: words.port,
+        listen: Listen::Port(0),
+        reach: words.reach,
+        limit: words.limit,
     }
 }
 
-/// The files and the port that the words name. None exactly where they ask for no command that has places; `NoMemory` is
-/// the one fault.
+/// The files that the arguments name, and where their command listens or dials. None exactly where they ask for no command that
+/// has places; `NoMemory` is the one fault.
 pub fn places(alloc: Global, words: &[String]) -> Result<Option<Places>, NoMemory>
     ensures { IfOk result (λ places. MatchOption places (AskForNoPlaces (map string_bytes words.now)) (AskForPlaces (map string_bytes words.now))) }
 {
@@ -255,7 +264,7 @@ pub fn places(alloc: Global, words: &[String]) -> Result<Option<Places>, NoMemor
     }
 }
 
-/// A text for a person that says why the words ask for no command. It is empty where they ask for one.
+/// A text for a person that says why the arguments ask for no command. It is empty where they ask for one.
 pub fn reason(alloc: Global, words: &[String]) -> Result<String, NoMemory> {
     match try_read(alloc, words) {
         Ok(_) => Ok(String::new(alloc)),

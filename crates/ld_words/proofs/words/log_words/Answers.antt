@@ -1,7 +1,7 @@
 use Rattle.std.proofs.Common.{codes, sym, subst}
 use Rattle.clap.specs.Words.{rows_of, found_of}
 use Rattle.ld_words.specs.Meaning.{IsLogWords, IsNumber, IsLogOf}
-use Rattle.ld_words.proofs.OneCommand.{no_log_config, no_log}
+use Rattle.ld_words.proofs.OneCommand.{no_log_config, no_log, no_log_reach}
 use Rattle.ld_words.proofs.Refused.{refused_one, not_none}
 use Rattle.ld_words.proofs.words.log_words.Goals as goal
 
@@ -30,15 +30,20 @@ returns-in_err-register-clause-says c =
     refused_one c.from_residual-in_err-register.result c.in_err-register.field-0.0 (IsLogWords (rows_of (found_of c.args.matches.now))) _ c.from_residual-in_err-register.ensures.1 c.in_err-register.ensures
     (λ w words none. not_none _ _ words.register none)
 
-pub returns-in_err-port-clause-says : goal.returns-in_err-port-clause-says
-returns-in_err-port-clause-says c =
-    refused_one c.from_residual-in_err-port.result c.in_err-port.field-0.0 (IsLogWords (rows_of (found_of c.args.matches.now))) _ c.from_residual-in_err-port.ensures.1 c.in_err-port.ensures
-    (λ w words none. none w.port words.port)
+pub returns-in_err-reach-clause-says : goal.returns-in_err-reach-clause-says
+returns-in_err-reach-clause-says c =
+    refused_one c.from_residual-in_err-reach.result c.in_err-reach.field-0.0 (IsLogWords (rows_of (found_of c.args.matches.now))) _ c.from_residual-in_err-reach.ensures.1 c.in_err-reach.ensures.says
+    (no_log_reach (rows_of (found_of c.args.matches.now)) c.in_ok-text.field-0.now c.in_ok-config.config c.in_ok-text.ensures c.in_ok-config.ensures.says)
 
 pub returns-in_err-rounds-clause-says : goal.returns-in_err-rounds-clause-says
 returns-in_err-rounds-clause-says c =
     refused_one c.from_residual-in_err-rounds.result c.in_err-rounds.field-0.0 (IsLogWords (rows_of (found_of c.args.matches.now))) _ c.from_residual-in_err-rounds.ensures.1 c.in_err-rounds.ensures
     (λ w words none. none w.rounds words.rounds)
+
+pub returns-in_err-limit-clause-says : goal.returns-in_err-limit-clause-says
+returns-in_err-limit-clause-says c =
+    refused_one c.from_residual-in_err-limit.result c.in_err-limit.field-0.0 (IsLogWords (rows_of (found_of c.args.matches.now))) _ c.from_residual-in_err-limit.ensures.1 c.in_err-limit.ensures
+    (λ w words none. none w.limit words.limit)
 
 pub returns : goal.returns
 returns c =
@@ -50,11 +55,13 @@ returns c =
         log = log;
         known = known;
         register = c.in_ok-register.ensures;
-        port = c.in_ok-port.ensures;
+        reach = c.in_ok-reach.ensures.says;
         rounds = c.in_ok-rounds.ensures;
+        limit = c.in_ok-limit.ensures;
       };
       bounds = record {
         config = c.in_ok-config.ensures.bounds;
         log = known.has;
+        nodes = c.in_ok-reach.ensures.bounds;
       };
     }

@@ -30,10 +30,10 @@ returns-in_err-store-clause-says c =
     refused_one c.from_residual-in_err-store.result c.in_err-store.field-0.0 (IsNodeWords (rows_of (found_of c.args.matches.now))) _ c.from_residual-in_err-store.ensures.1 c.in_err-store.ensures
     (λ w words none. none w.store w.register words.files)
 
-pub returns-in_err-port-clause-says : goal.returns-in_err-port-clause-says
-returns-in_err-port-clause-says c =
-    refused_one c.from_residual-in_err-port.result c.in_err-port.field-0.0 (IsNodeWords (rows_of (found_of c.args.matches.now))) _ c.from_residual-in_err-port.ensures.1 c.in_err-port.ensures
-    (λ w words none. none w.port words.port)
+pub returns-in_err-listen-clause-says : goal.returns-in_err-listen-clause-says
+returns-in_err-listen-clause-says c =
+    refused_one c.from_residual-in_err-listen.result c.in_err-listen.field-0.0 (IsNodeWords (rows_of (found_of c.args.matches.now))) _ c.from_residual-in_err-listen.ensures.1 c.in_err-listen.ensures
+    (λ w words none. none w.listen words.listen)
 
 pub returns-in_err-turns-clause-says : goal.returns-in_err-turns-clause-says
 returns-in_err-turns-clause-says c =
@@ -50,7 +50,7 @@ returns c =
         config = record { text = c.in_ok-text.field-0.now; is = c.in_ok-text.ensures; says = c.in_ok-config.ensures.says };
         member = member;
         files = c.in_ok-store.ensures;
-        port = c.in_ok-port.ensures;
+        listen = c.in_ok-listen.ensures;
         turns = c.in_ok-turns.ensures;
         format = c.flag.ensures;
       };
