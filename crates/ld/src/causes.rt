@@ -104,7 +104,7 @@ pub fn tell(rt: &HostRuntime, status: Status, found: &Found<'_, '_>) -> Result<(
         }
         Status::NotDone => tell_waiting(rt, found.words),
         Status::Preempted(by) => eprintln!(rt;
-            "ld: preempted by epoch {by}: another sequencer has taken the log over"
+            "ld: preempted by {by}: another sequencer has taken the log over in that epoch"
         ),
         Status::LogLimit => eprintln!(rt;
             "ld: the register holds 64 other logs, which is all that it can"
