@@ -1,5 +1,5 @@
 -- What holds of a register's answers whatever it holds: numbers in their bounds, and which refusals never come.
-use Rattle.std.specs.Prelude.{◌≡◌, ◌≢◌, ◌≤◌, ◌-◌, ◌^◌, ℕ, Bool, true, Option, Ok, Err, IfOk, IfSome, OnErr, IsErrOf}
+use Rattle.std.specs.Prelude.{◌≡◌, ◌≢◌, ◌≤◌, ◌-◌, ◌^◌, ℕ, Bool, true, Option, Err, IfOk, IfSome, OnErr, IsErrOf}
 use Rattle.std.specs.declared.result.Result.{Result}
 use Rattle.ld_ids.specs.declared.set.Spec.{Spec}
 use Rattle.ld_op.specs.Bounds.{IsOp}

@@ -1,5 +1,5 @@
 -- Refusals that may come at any point fit each call.
-use Rattle.std.specs.Prelude.{◌≡◌, ℕ, Bool, List, Option, Err, IfOk, OnErr}
+use Rattle.std.specs.Prelude.{◌≡◌, ℕ, Bool, Option, Err, IfOk, OnErr}
 use Rattle.std.proofs.Common.{subst}
 use Rattle.std.specs.declared.result.Result.{Result}
 use Rattle.std.specs.declared.result.Result.TheVariants as results

@@ -1,2 +1,6 @@
+pub mod Bodies
 pub mod Fits
 pub mod Free
+pub mod Fresh
+pub mod Says
+pub mod Together

@@ -1,6 +1,11 @@
 // The register in memory that the records there are now lead to.
-ghost use Rattle.std.specs.Prelude.{IfErr};
+ghost use Rattle.std.specs.Prelude.{◌≡◌, ◌<◌, ◌+◌, ◌∷◌, ◌++◌, [], ℕ, List, length, take, true, Ok, IfOk, OnErr};
+ghost use Rattle.ld_journal.specs.Format.{records};
+ghost use Rattle.ld_records.specs.Growth.{Grows};
 ghost use Rattle.ld_register.specs.Calls.{IsFree};
+ghost use Rattle.ld_shared.specs.Bodies.{body_in};
+ghost use Rattle.ld_shared.specs.Fresh.{IsFresh, HasRead};
+ghost use Rattle.ld_shared.specs.Says.{IsFreeFault};
 
 use crate::asking::Copy;
 use crate::journal::{disk_of, push_record};
@@ -19,83 +24,78 @@ pub(crate) struct Fresh {
     pub number: u64,
 }
 
-/// The register that the records lead to; or what a call is to answer where it can't be made.
-pub(crate) fn fresh_of<C: Records, T: Drop>(
-    alloc: Global,
-    records: &mut C,
-) -> Result<Fresh, Result<T, RegisterFault>>
-    ensures { IfErr result (λ answer. IsFree answer) }
+/// The register that the records lead to.
+pub(crate) fn fresh_of<C: Records>(alloc: Global, records: &mut C) -> Result<Fresh, RegisterFault>
+    ensures fresh { IfOk result (λ fresh. IsFresh (C.list records.new) fresh) }
+    ensures grows { Grows (C.list records.old) (C.list records.new) }
+    ensures free { OnErr result (IsFree result) }
 {
     let mut journal = Vec::new(alloc);
-    let number = match read_all(alloc, records, &mut journal) {
-        Ok(number) => number,
-        Err(answer) => return Err(answer),
-    };
+    let number = read_all(alloc, records, &mut journal)?;
     let end = journal.len() as u64;
-    let Ok(()) = journal.extend_from_slice(&[0]) else {
-        return Err(Err(RegisterFault::NoMemory));
-    };
+    journal.extend_from_slice(&[0])?;
     match disk_of(alloc, &journal) {
         Ok(disk) => Ok(Fresh {
             copy: DiskRegister::new(alloc, disk),
             end,
             number,
         }),
-        Err(_) => Err(Err(RegisterFault::NoMemory)),
+        Err(_) => Err(RegisterFault::NoMemory),
     }
 }
 
 /// Puts the records' bodies into a journal, and says how many these are.
-fn read_all<C: Records, T: Drop>(
+fn read_all<C: Records>(
     alloc: Global,
     records: &mut C,
     journal: &mut Vec<u8>,
-) -> Result<u64, Result<T, RegisterFault>>
-    ensures { IfErr result (λ answer. IsFree answer) }
+) -> Result<u64, RegisterFault>
+    requires { journal.old.items ≡ [] }
+    ensures all { IfOk result (λ n. HasRead n (C.list records.new) journal.new.items × (n ≡ length (C.list records.new))) }
+    ensures grows { Grows (C.list records.old) (C.list records.new) }
+    ensures free { OnErr result (IsFree result) }
 {
     let mut value = Vec::new(alloc);
     'records: for number in 0..u64::MAX {
         match records.read(alloc, number, &mut value) {
-            Ok(true) => {
-                if let Err(answer) = push_body(journal, &value, number) {
-                    return Err(answer);
-                }
-            }
+            Ok(true) => push_body(journal, &value, number)?,
             Ok(false) => return Ok(number),
             Err(fault) => return Err(refused(fault)),
         }
     }
-    Err(Err(RegisterFault::Failed))
+    Err(RegisterFault::Failed)
 }
 
-/// Puts a value's body behind the others. Of a value that is shorter than a mark it is empty, which is no change.
-fn push_body<T: Drop>(
-    journal: &mut Vec<u8>,
-    value: &[u8],
-    number: u64,
-) -> Result<(), Result<T, RegisterFault>>
-    ensures { IfErr result (λ answer. IsFree answer) }
+/// Puts a value's body behind the others.
+fn push_body(journal: &mut Vec<u8>, value: &[u8], number: u64) -> Result<(), RegisterFault>
+    ensures pushed { (n : ℕ) (values : List (List ℕ)) → result ≡ Ok tt → HasRead n values journal.old.items → take (n + 1) values ≡ take n values ++ value.now ∷ [] → HasRead (n + 1) values journal.new.items }
+    ensures free { OnErr result (IsFree result) }
 {
-    let body = match value.get(MARK..) {
-        Some(body) => body,
-        None => &[],
-    };
+    let body = body_of(value);
     if body.len() > u32::MAX as usize {
-        return Err(Err(RegisterFault::Damaged(number)));
+        return Err(RegisterFault::Damaged(number));
     }
-    match push_record(journal, body) {
-        Ok(()) => Ok(()),
-        Err(_) => Err(Err(RegisterFault::NoMemory)),
-    }
+    push_record(journal, body)?;
+    Ok(())
 }
 
-/// What a call answers where the records fail.
-pub(crate) fn refused<T: Drop>(fault: RecordsFault) -> Result<T, RegisterFault>
-    ensures { IsFree result }
+/// The body in a value: an empty one where the value is shorter than a mark.
+fn body_of(value: &[u8]) -> &[u8]
+    ensures { result.now ≡ body_in value.now }
+{
+    if value.len() < MARK {
+        return &[];
+    }
+    &value[MARK..]
+}
+
+/// A fault of the records as a register's.
+pub(crate) fn refused(fault: RecordsFault) -> RegisterFault
+    ensures { IsFreeFault result }
 {
     match fault {
-        RecordsFault::Failed => Err(RegisterFault::Failed),
-        RecordsFault::Damaged(number) => Err(RegisterFault::Damaged(number)),
-        RecordsFault::NoMemory => Err(RegisterFault::NoMemory),
+        RecordsFault::Failed => RegisterFault::Failed,
+        RecordsFault::Damaged(number) => RegisterFault::Damaged(number),
+        RecordsFault::NoMemory => RegisterFault::NoMemory,
     }
 }

@@ -1,9 +1,10 @@
 // The journal of bodies, on a disk in memory, and what a register appended to it.
-ghost use Rattle.std.specs.Prelude.{◌≡◌, ◌⊎◌, ◌<◌, ◌^◌, ◌++◌, ◌∷◌, [], List, ℕ, length, IfOk, IfErr, IfSome, OnOk, Ok, Err, None};
+ghost use Rattle.std.specs.Prelude.{◌≡◌, ◌⊎◌, ◌<◌, ◌^◌, ◌++◌, List, ℕ, length, IfOk, IfSome, OnOk, OnErr, Ok, None};
 ghost use Rattle.ld_disk.specs.Memory.{disk_plain};
 ghost use Rattle.ld_disk.specs.Plain.{IsSound};
 ghost use Rattle.ld_journal.specs.Format.{framed};
 ghost use Rattle.ld_register.specs.Calls.{IsFree};
+ghost use Rattle.ld_shared.specs.Says.{IsFreeFault};
 ghost use Rattle.ld_journal.specs.Rest.{IsParted, IsShut, BeginsWith};
 
 use ld_disk::{Disk, MemDisk};
@@ -53,39 +54,38 @@ fn body_at<D: Disk>(alloc: Global, disk: &mut D, at: u64) -> Result<Option<Vec<u
     }
 }
 
-/// The body of the record that a register appended behind this end of its journal, where it appended one; or what a call is
-/// to answer where it can't be read.
-pub(crate) fn appended<D: Disk, T: Drop>(
+/// The body of the record that a register appended behind this end of its journal, where it appended one.
+pub(crate) fn appended<D: Disk>(
     alloc: Global,
     disk: &mut D,
     end: u64,
-) -> Result<Option<Vec<u8>>, Result<T, RegisterFault>>
+) -> Result<Option<Vec<u8>>, RegisterFault>
     ensures found { IfOk result (λ found. IfSome found (λ body. (front rest : List ℕ) → IsParted D.seen disk.old end front rest → BeginsWith body.items rest)) }
     ensures ended { result ≡ Ok None → (front rest : List ℕ) → IsParted D.seen disk.old end front rest → IsShut rest }
-    ensures free { IfErr result (λ answer. IsFree answer) }
+    ensures free { OnErr result (IsFree result) }
 {
     match body_at(alloc, disk, end) {
         Ok(found) => Ok(found),
-        Err(JournalFault::NoMemory) => Err(Err(RegisterFault::NoMemory)),
-        Err(_) => Err(Err(RegisterFault::Failed)),
+        Err(JournalFault::NoMemory) => Err(RegisterFault::NoMemory),
+        Err(_) => Err(RegisterFault::Failed),
     }
 }
 
 /// A refusal of a register on this disk, with the number of a record in place of the record's offset.
-pub(crate) fn numbered<D: Disk + Drop, T: Drop>(
+pub(crate) fn numbered<D: Disk + Drop>(
     alloc: Global,
     disk: D,
     fault: RegisterFault,
-) -> Result<T, RegisterFault>
-    ensures { (result ≡ Err fault) ⊎ IsFree result }
+) -> RegisterFault
+    ensures { (result ≡ fault) ⊎ IsFreeFault result }
 {
     let RegisterFault::Damaged(place) = fault else {
-        return Err(fault);
+        return fault;
     };
     let mut disk = disk;
     match records_before(alloc, &mut disk, place) {
-        Ok(number) => Err(RegisterFault::Damaged(number)),
-        Err(_) => Err(RegisterFault::NoMemory),
+        Ok(number) => RegisterFault::Damaged(number),
+        Err(_) => RegisterFault::NoMemory,
     }
 }
 

@@ -1,6 +1,7 @@
 // What stands before a body, and tells whose record it is.
-ghost use Rattle.std.specs.Prelude.{◌≡◌, ◌++◌, ◌+◌, ◌-◌, ◌^◌, min, drop, IfOk};
+ghost use Rattle.std.specs.Prelude.{◌≡◌, ◌++◌, ◌+◌, ◌-◌, ◌^◌, min, IfOk};
 ghost use Rattle.std.specs.Int.{w64, to_be_bytes};
+ghost use Rattle.ld_shared.specs.Bodies.{owner, IsValueOf};
 
 use std::alloc::{AllocError, Global};
 
@@ -28,7 +29,7 @@ impl Mark {
     /// The value with this body, and the mark with its next count before it: 24 bytes.
     pub fn value(&mut self, alloc: Global, body: &[u8]) -> Result<Vec<u8>, AllocError>
         ensures value { IfOk result (λ v. v.items ≡ to_be_bytes w64 self.old.high ++ (to_be_bytes w64 self.old.low ++ (to_be_bytes w64 self.old.count ++ body.now))) }
-        ensures body { IfOk result (λ v. drop 24 v.items ≡ body.now) }
+        ensures owned { IfOk result (λ v. IsValueOf (owner self.old) body.now v.items) }
         ensures counted { self.new ≡ record self.old { count = min (self.old.count + 1) (2 ^ 64 - 1) } }
     {
         let count = self.count;

@@ -13,10 +13,15 @@ pub(crate) struct Activation<'a> {
 
 impl<'a> Question<Grant> for Activation<'a> {
     ghost use Rattle.ld_register.specs.Bounds.{IsSpec};
+    ghost use Rattle.ld_register.specs.Calls.{activated, after_activate};
     ghost use Rattle.ld_shared.specs.Fits.{ActivationFits};
     ghost use Rattle.ld_shared.specs.Free.{activation_free};
 
     ghost is_valid = { λ q. IsSpec q.spec.now };
+
+    ghost answer = { λ q c. activated c q.spec.now };
+
+    ghost after = { λ q c. after_activate c q.spec.now };
 
     ghost fits = { λ q result. ActivationFits q.spec.now.log result };
 
@@ -38,10 +43,15 @@ pub(crate) struct Closing<'a> {
 
 impl<'a> Question<Option<Spec>> for Closing<'a> {
     ghost use Rattle.ld_msg.specs.Bounds.{IsSummary};
+    ghost use Rattle.ld_register.specs.Calls.{closed, after_close};
     ghost use Rattle.ld_shared.specs.Fits.{CloseFits};
     ghost use Rattle.ld_shared.specs.Free.{close_free};
 
     ghost is_valid = { λ q. IsSummary q.epoch q.summary.now };
+
+    ghost answer = { λ q c. closed c q.log q.epoch q.summary.now q.short };
+
+    ghost after = { λ q c. after_close c q.log q.epoch q.summary.now q.short };
 
     ghost fits = { λ q result. CloseFits q.log q.summary.now.ballot q.short result };
 
@@ -59,10 +69,15 @@ pub(crate) struct Drawing {
 }
 
 impl Question<Drawn> for Drawing {
+    ghost use Rattle.ld_register.specs.Calls.{drawn, after_draw};
     ghost use Rattle.ld_shared.specs.Fits.{DrawFits};
     ghost use Rattle.ld_shared.specs.Free.{draw_free};
 
     ghost is_valid = { λ _. Unit {0} };
+
+    ghost answer = { λ q c. drawn c q.node };
+
+    ghost after = { λ q c. after_draw c q.node };
 
     ghost fits = { λ _ result. DrawFits result };
 
@@ -83,10 +98,15 @@ pub(crate) struct Swapping {
 }
 
 impl Question<u32> for Swapping {
+    ghost use Rattle.ld_register.specs.Calls.{swapped, after_swap};
     ghost use Rattle.ld_shared.specs.Fits.{SwapFits};
     ghost use Rattle.ld_shared.specs.Free.{swap_free};
 
     ghost is_valid = { λ _. Unit {0} };
+
+    ghost answer = { λ q c. swapped c q.log q.upto q.member q.spare };
+
+    ghost after = { λ q c. after_swap c q.log q.upto q.member q.spare };
 
     ghost fits = { λ _ result. SwapFits result };
 
@@ -105,10 +125,16 @@ pub(crate) struct Looking {
 }
 
 impl Question<View> for Looking {
+    ghost use Rattle.std.specs.Prelude.{Ok};
+    ghost use Rattle.ld_register.specs.Calls.{looked};
     ghost use Rattle.ld_shared.specs.Fits.{LookFits};
     ghost use Rattle.ld_shared.specs.Free.{look_free};
 
     ghost is_valid = { λ _. Unit {0} };
+
+    ghost answer = { λ q c. Ok (looked c q.log q.e) };
+
+    ghost after = { λ _ c. c };
 
     ghost fits = { λ q result. LookFits q.log q.e result };
 

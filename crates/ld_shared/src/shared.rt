@@ -1,10 +1,10 @@
 // A register whose changes are records that others append as well.
-ghost use Rattle.std.specs.Prelude.{◌≡◌, ◌⊎◌, ◌≤◌, None, IsSome, OnOk, OnErr, IsErrOf};
+ghost use Rattle.std.specs.Prelude.{◌≡◌, ◌⊎◌, ◌≤◌, IsErrOf};
 ghost use Rattle.ld_io.specs.Causes.{Rose};
 
+use crate::asked::decided;
 use crate::asking::Question;
 use crate::fresh::{fresh_of, refused};
-use crate::journal::{appended, numbered};
 use crate::mark::Mark;
 use crate::questions::{Activation, Closing, Drawing, Looking, Swapping};
 use ld_ids::{LogId, NodeId, Spec};
@@ -15,17 +15,9 @@ use std::alloc::Global;
 
 /// A record whose making isn't known to have been done.
 #[derive(Drop)]
-struct Unsettled {
-    number: u64,
-    value: Vec<u8>,
-}
-
-/// The records, the program's mark, and what isn't settled.
-#[derive(Drop)]
-struct Shared<C: Records + Drop> {
-    records: C,
-    mark: Mark,
-    unsettled: Option<Unsettled>,
+pub(crate) struct Unsettled {
+    pub number: u64,
+    pub value: Vec<u8>,
 }
 
 /// A register whose changes are records, each with the program's mark and the body that a register on a disk writes for it.
@@ -40,51 +32,49 @@ struct Shared<C: Records + Drop> {
 /// `Damaged` tells the number of the first record that is no next change.
 #[derive(Drop)]
 pub struct SharedRegister<C: Records + Drop> {
-    shared: Shared<C>,
+    pub(crate) records: C,
+    mark: Mark,
+    pub(crate) unsettled: Option<Unsettled>,
     faults: u64,
 }
 
 impl<C: Records + Drop> SharedRegister<C> {
+    ghost use Rattle.std.specs.Prelude.{ℕ, List, Option, None, Some, Ok, Err, true, false, IfSome, IsSome, OnOk, OnErr};
+    ghost use Rattle.ld_records.specs.Growth.{Grows, IsAt};
+    ghost use Rattle.ld_register.specs.Calls.{IsFree};
+    ghost use Rattle.ld_shared.specs.Bodies.{IsValueOf, owner};
+    ghost use Rattle.ld_shared.specs.Says.{Says, Tried, FitsTried, IsSettled, IsLate, Settles, values_of, owner_of, unsettled_of};
+
     /// A register of these records, which no call has read yet.
     pub fn new(records: C, mark: Mark) -> SharedRegister<C>
-        ensures { result.faults ≡ 0 }
+        ensures records { values_of C.Records result ≡ C.list records }
+        ensures owner { owner_of result ≡ owner mark }
+        ensures settled { unsettled_of result ≡ None }
+        ensures faults { result.faults ≡ 0 }
     {
         SharedRegister {
-            shared: Shared {
-                records,
-                mark,
-                unsettled: None,
-            },
+            records,
+            mark,
+            unsettled: None,
             faults: 0,
         }
     }
 
     /// Its records.
-    pub fn records(&self) -> &C {
-        &self.shared.records
-    }
-
-    /// Counts a call that failed.
-    fn count<T>(&mut self, answer: &Result<T, RegisterFault>)
-        ensures failed { IsErrOf answer.now RegisterFault.Failed → Rose self.old.faults self.new.faults }
-        ensures steady { IsErrOf answer.now RegisterFault.Failed ⊎ (self.new.faults ≡ self.old.faults) }
-        ensures counts { self.old.faults ≤ self.new.faults }
+    pub fn records(&self) -> &C
+        ensures { C.list result.now ≡ values_of C.Records self.now }
     {
-        if let Err(RegisterFault::Failed) = answer {
-            self.faults = self.faults.saturating_add(1);
-        }
+        &self.records
     }
-}
 
-impl<C: Records + Drop> Shared<C> {
-    ghost use Rattle.std.specs.Prelude.{IfErr, Err};
-    ghost use Rattle.ld_register.specs.Calls.{IsFree};
-
-    /// Appends anew what isn't known to be made, where there is such a record. Where that fails it is still unsettled.
-    fn settle<T: Drop>(&mut self, alloc: Global) -> Result<(), Result<T, RegisterFault>>
-        ensures settled { OnOk result (self.new.unsettled ≡ None) }
-        ensures kept { OnErr result (self.new.unsettled ≡ self.old.unsettled) }
-        ensures free { IfErr result (λ answer. IsFree answer) }
+    /// Appends anew what isn't known to be made, where there is such a record.
+    #[tactic(auto, using(crate::proofs::Growing::grows_not))]
+    fn settle(&mut self, alloc: Global) -> Result<(), RegisterFault>
+        ensures grows { Grows (values_of C.Records self.old) (values_of C.Records self.new) }
+        ensures settled { OnOk result ((unsettled_of self.new ≡ None) × IsSettled (values_of C.Records self.new) (unsettled_of self.old)) }
+        ensures refused { OnErr result (IsFree result × (unsettled_of self.new ≡ unsettled_of self.old)) }
+        ensures owner { owner_of self.new ≡ owner_of self.old }
+        ensures faults { self.new.faults ≡ self.old.faults }
     {
         let Some(unsettled) = self.unsettled.take() else {
             return Ok(());
@@ -93,7 +83,8 @@ impl<C: Records + Drop> Shared<C> {
             .records
             .append(alloc, unsettled.number, &unsettled.value)
         {
-            Ok(_) => Ok(()),
+            Ok(Appended::Made) => Ok(()),
+            Ok(Appended::Taken) => Ok(()),
             Err(fault) => {
                 self.unsettled = Some(unsettled);
                 Err(refused(fault))
@@ -101,58 +92,57 @@ impl<C: Records + Drop> Shared<C> {
         }
     }
 
-    /// Makes a change's record: false where another program was quicker. Where its outcome isn't known it is unsettled.
-    fn append<T: Drop>(
-        &mut self,
-        alloc: Global,
-        number: u64,
-        body: &[u8],
-    ) -> Result<bool, Result<T, RegisterFault>>
-        ensures unsettled { (result ≡ Err (Err RegisterFault.Failed)) → IsSome self.new.unsettled }
-        ensures free { IfErr result (λ answer. IsFree answer) }
+    /// Makes a change's record: false where another program was quicker.
+    #[tactic(auto, using(crate::proofs::Growing::grows_not))]
+    fn append(&mut self, alloc: Global, number: u64, body: &[u8]) -> Result<bool, RegisterFault>
+        requires { unsettled_of self.old ≡ None }
+        ensures grows { Grows (values_of C.Records self.old) (values_of C.Records self.new) }
+        ensures made { result ≡ Ok true → (value : List ℕ) × IsAt number value (values_of C.Records self.new) × IsValueOf (owner_of self.old) body.now value }
+        ensures settled { OnOk result (unsettled_of self.new ≡ None) }
+        ensures free { OnErr result (IsFree result) }
+        ensures unsettled { IsErrOf result RegisterFault.Failed → IsSome (unsettled_of self.new) }
+        ensures late { IfSome (unsettled_of self.new) (λ u. (u.number ≡ number) × IsValueOf (owner_of self.old) body.now u.value.items) }
+        ensures owner { owner_of self.new ≡ owner_of self.old }
+        ensures faults { self.new.faults ≡ self.old.faults }
     {
-        let Ok(value) = self.mark.value(alloc, body) else {
-            return Err(Err(RegisterFault::NoMemory));
-        };
+        let value = self.mark.value(alloc, body)?;
         match self.records.append(alloc, number, &value) {
             Ok(Appended::Made) => Ok(true),
             Ok(Appended::Taken) => Ok(false),
-            Err(RecordsFault::NoMemory) => Err(Err(RegisterFault::NoMemory)),
+            Err(RecordsFault::NoMemory) => Err(RegisterFault::NoMemory),
             Err(_) => {
                 self.unsettled = Some(Unsettled { number, value });
-                Err(Err(RegisterFault::Failed))
+                Err(RegisterFault::Failed)
             }
         }
     }
 
-    /// One try of a call, and whether another program was quicker.
+    /// One try of a call: none where another program was quicker.
     fn once<T: Drop, Q: Question<T>>(
         &mut self,
         alloc: Global,
         question: &Q,
-    ) -> (Result<T, RegisterFault>, bool)
-        requires { Q.is_valid question.now }
-        ensures { Q.fits question.now result.0 }
+    ) -> Result<Option<T>, RegisterFault>
+        requires valid { Q.is_valid question.now }
+        requires settled { unsettled_of self.old ≡ None }
+        ensures grows { Grows (values_of C.Records self.old) (values_of C.Records self.new) }
+        ensures tried { Tried (owner_of self.old) (values_of C.Records self.old) (values_of C.Records self.new) result (Q.answer question.now) (Q.after question.now) }
+        ensures fits { FitsTried (Q.fits question.now) result }
+        ensures settled { OnOk result (unsettled_of self.new ≡ None) }
+        ensures late { IfSome (unsettled_of self.new) (IsLate (owner_of self.old) (values_of C.Records self.new) (Q.after question.now)) }
+        ensures owner { owner_of self.new ≡ owner_of self.old }
+        ensures faults { self.new.faults ≡ self.old.faults }
     {
-        let fresh = match fresh_of(alloc, &mut self.records) {
-            Ok(fresh) => fresh,
-            Err(answer) => return (answer, false),
-        };
-        let end = fresh.end;
+        let fresh = fresh_of(alloc, &mut self.records)?;
         let number = fresh.number;
-        let mut copy = fresh.copy;
-        match question.ask(alloc, &mut copy) {
-            Ok(answer) => match appended(alloc, &mut copy.into_disk(), end) {
-                Ok(None) => (Ok(answer), false),
-                Ok(Some(body)) => match self.append(alloc, number, &body) {
-                    Ok(true) => (Ok(answer), false),
-                    Ok(false) => (Err(RegisterFault::Failed), true),
-                    Err(refusal) => (refusal, false),
-                },
-                Err(refusal) => (refusal, false),
-            },
-            Err(fault) => (numbered(alloc, copy.into_disk(), fault), false),
+        let decision = decided(alloc, fresh, question)?;
+        let Some(body) = &decision.body else {
+            return Ok(Some(decision.answer));
+        };
+        if self.append(alloc, number, body)? {
+            return Ok(Some(decision.answer));
         }
+        Ok(None)
     }
 
     /// A call, which is tried until no other program is quicker.
@@ -162,22 +152,45 @@ impl<C: Records + Drop> Shared<C> {
         question: &Q,
     ) -> Result<T, RegisterFault>
         requires { Q.is_valid question.now }
-        ensures { Q.fits question.now result }
+        ensures grows { Grows (values_of C.Records self.old) (values_of C.Records self.new) }
+        ensures says { IsFree result ⊎ Says (owner_of self.old) (values_of C.Records self.old) (values_of C.Records self.new) result (Q.answer question.now) (Q.after question.now) }
+        ensures settles { Settles C.Records self.old self.new result (Q.after question.now) }
+        ensures fits { Q.fits question.now result }
+        ensures owner { owner_of self.new ≡ owner_of self.old }
+        ensures faults { self.new.faults ≡ self.old.faults }
     {
-        if let Err(answer) = self.settle(alloc) {
-            return answer;
-        }
+        self.settle(alloc)?;
         'tries: for _ in 0..u64::MAX {
-            let (answer, is_beaten) = self.once(alloc, question);
-            if !is_beaten {
-                return answer;
+            if let Some(answer) = self.once(alloc, question)? {
+                return Ok(answer);
             }
         }
         Err(RegisterFault::Failed)
     }
+
+    /// Counts a call that failed.
+    fn count<T>(&mut self, answer: &Result<T, RegisterFault>)
+        ensures failed { IsErrOf answer.now RegisterFault.Failed → Rose self.old.faults self.new.faults }
+        ensures steady { IsErrOf answer.now RegisterFault.Failed ⊎ (self.new.faults ≡ self.old.faults) }
+        ensures counts { self.old.faults ≤ self.new.faults }
+        ensures same { (values_of C.Records self.new ≡ values_of C.Records self.old) × (unsettled_of self.new ≡ unsettled_of self.old) × (owner_of self.new ≡ owner_of self.old) }
+    {
+        if let Err(RegisterFault::Failed) = answer {
+            self.faults = self.faults.saturating_add(1);
+        }
+    }
 }
 
 impl<C: Records + Drop> Register for SharedRegister<C> {
+    ghost use Rattle.std.specs.Prelude.{◌≢◌, ◌-◌, ◌^◌, ℕ, Option, IfOk, IfSome, OnErr, Ok, Err, true};
+    ghost use Rattle.ld_ids.specs.declared.set.Spec.{Spec as Fixed};
+    ghost use Rattle.ld_msg.specs.Bounds.{IsSummary};
+    ghost use Rattle.ld_op.specs.Bounds.{IsOp};
+    ghost use Rattle.ld_op.specs.declared.op.Op.TheVariants.{Format};
+    ghost use Rattle.ld_register.specs.Bounds.{IsSpec, IsSpecFor};
+    ghost use Rattle.ld_register.specs.Calls.{activated, after_activate, closed, after_close, drawn, after_draw, swapped, after_swap, looked, IsGrant, IsView, IsFree};
+    ghost use Rattle.ld_shared.specs.Says.{Answers};
+
     ghost told = { λ _. ⊥ };
 
     ghost holds = { λ _ _. ⊥ };
@@ -208,8 +221,19 @@ impl<C: Records + Drop> Register for SharedRegister<C> {
 
     ghost held_is_whole = { λ _ _ _ h _. h };
 
-    fn activate(&mut self, alloc: Global, spec: &Spec) -> Result<Grant, RegisterFault> {
-        let answer = self.shared.call(alloc, &Activation { spec });
+    fn activate(&mut self, alloc: Global, spec: &Spec) -> Result<Grant, RegisterFault>
+        requires { IsSpec spec.now }
+        ensures answers { Answers C.Records self.old self.new result (λ c. activated c spec.now) (λ c. after_activate c spec.now) }
+        ensures bounds { IfOk result (IsGrant spec.now.log) }
+        ensures failed { IsErrOf result RegisterFault.Failed → Rose self.old.faults self.new.faults }
+        ensures behind { (lce : ℕ) (next : Option Fixed) → result ≢ Err (RegisterFault.Behind lce next) }
+        ensures overtaken { (kept : ℕ) → result ≢ Err (RegisterFault.Overtaken kept) }
+        ensures generations { result ≢ Err RegisterFault.GenLimit }
+        ensures swaps { result ≢ Err RegisterFault.SwapLimit }
+        ensures steady { IsErrOf result RegisterFault.Failed ⊎ (self.new.faults ≡ self.old.faults) }
+        ensures counts { self.old.faults ≤ self.new.faults }
+    {
+        let answer = self.call(alloc, &Activation { spec });
         self.count(&answer);
         answer
     }
@@ -221,8 +245,20 @@ impl<C: Records + Drop> Register for SharedRegister<C> {
         epoch: u32,
         summary: &Summary,
         short: bool,
-    ) -> Result<Option<Spec>, RegisterFault> {
-        let answer = self.shared.call(
+    ) -> Result<Option<Spec>, RegisterFault>
+        requires { IsSummary epoch summary.now }
+        ensures answers { Answers C.Records self.old self.new result (λ c. closed c log epoch summary.now short) (λ c. after_close c log epoch summary.now short) }
+        ensures next { IfOk result (λ next. IfSome next (IsSpecFor log)) }
+        ensures bounds { (lce : ℕ) (next : Option Fixed) → IsErrOf result (RegisterFault.Behind lce next) → (lce ≤ 2 ^ 32 - 2) × IfSome next (IsSpecFor log) }
+        ensures overtaken { (kept : ℕ) → IsErrOf result (RegisterFault.Overtaken kept) → (short ≡ true) × (kept ≤ 2 ^ 32 - 2) × (kept ≢ summary.now.ballot) }
+        ensures failed { IsErrOf result RegisterFault.Failed → Rose self.old.faults self.new.faults }
+        ensures epochs { result ≢ Err RegisterFault.EpochLimit }
+        ensures generations { result ≢ Err RegisterFault.GenLimit }
+        ensures swaps { result ≢ Err RegisterFault.SwapLimit }
+        ensures steady { IsErrOf result RegisterFault.Failed ⊎ (self.new.faults ≡ self.old.faults) }
+        ensures counts { self.old.faults ≤ self.new.faults }
+    {
+        let answer = self.call(
             alloc,
             &Closing {
                 log,
@@ -235,8 +271,19 @@ impl<C: Records + Drop> Register for SharedRegister<C> {
         answer
     }
 
-    fn draw(&mut self, alloc: Global, node: NodeId) -> Result<Drawn, RegisterFault> {
-        let answer = self.shared.call(alloc, &Drawing { node });
+    fn draw(&mut self, alloc: Global, node: NodeId) -> Result<Drawn, RegisterFault>
+        ensures answers { Answers C.Records self.old self.new result (λ c. drawn c node) (λ c. after_draw c node) }
+        ensures bounds { IfOk result (λ drawn. IsOp (Format drawn.gen_ drawn.epochs)) }
+        ensures failed { IsErrOf result RegisterFault.Failed → Rose self.old.faults self.new.faults }
+        ensures logs { result ≢ Err RegisterFault.LogLimit }
+        ensures behind { (lce : ℕ) (next : Option Fixed) → result ≢ Err (RegisterFault.Behind lce next) }
+        ensures overtaken { (kept : ℕ) → result ≢ Err (RegisterFault.Overtaken kept) }
+        ensures epochs { result ≢ Err RegisterFault.EpochLimit }
+        ensures swaps { result ≢ Err RegisterFault.SwapLimit }
+        ensures steady { IsErrOf result RegisterFault.Failed ⊎ (self.new.faults ≡ self.old.faults) }
+        ensures counts { self.old.faults ≤ self.new.faults }
+    {
+        let answer = self.call(alloc, &Drawing { node });
         self.count(&answer);
         answer
     }
@@ -248,8 +295,18 @@ impl<C: Records + Drop> Register for SharedRegister<C> {
         upto: u32,
         member: NodeId,
         spare: NodeId,
-    ) -> Result<u32, RegisterFault> {
-        let answer = self.shared.call(
+    ) -> Result<u32, RegisterFault>
+        ensures answers { Answers C.Records self.old self.new result (λ c. swapped c log upto member spare) (λ c. after_swap c log upto member spare) }
+        ensures failed { IsErrOf result RegisterFault.Failed → Rose self.old.faults self.new.faults }
+        ensures logs { result ≢ Err RegisterFault.LogLimit }
+        ensures behind { (lce : ℕ) (next : Option Fixed) → result ≢ Err (RegisterFault.Behind lce next) }
+        ensures overtaken { (kept : ℕ) → result ≢ Err (RegisterFault.Overtaken kept) }
+        ensures epochs { result ≢ Err RegisterFault.EpochLimit }
+        ensures generations { result ≢ Err RegisterFault.GenLimit }
+        ensures steady { IsErrOf result RegisterFault.Failed ⊎ (self.new.faults ≡ self.old.faults) }
+        ensures counts { self.old.faults ≤ self.new.faults }
+    {
+        let answer = self.call(
             alloc,
             &Swapping {
                 log,
@@ -262,8 +319,15 @@ impl<C: Records + Drop> Register for SharedRegister<C> {
         answer
     }
 
-    fn look(&mut self, alloc: Global, log: LogId, e: u32) -> Result<View, RegisterFault> {
-        let answer = self.shared.call(alloc, &Looking { log, e });
+    fn look(&mut self, alloc: Global, log: LogId, e: u32) -> Result<View, RegisterFault>
+        ensures answers { Answers C.Records self.old self.new result (λ c. Ok (looked c log e)) (λ c. c) }
+        ensures view { IfOk result (IsView log e) }
+        ensures failed { IsErrOf result RegisterFault.Failed → Rose self.old.faults self.new.faults }
+        ensures free { OnErr result (IsFree result) }
+        ensures steady { IsErrOf result RegisterFault.Failed ⊎ (self.new.faults ≡ self.old.faults) }
+        ensures counts { self.old.faults ≤ self.new.faults }
+    {
+        let answer = self.call(alloc, &Looking { log, e });
         self.count(&answer);
         answer
     }
