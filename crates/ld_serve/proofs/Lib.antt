@@ -6,3 +6,7 @@ pub mod Stops
 pub mod Openings
 pub mod Wholes
 pub mod Completing
+pub mod Looks
+pub mod Crowds
+pub mod CrowdStops
+pub mod Gatherings

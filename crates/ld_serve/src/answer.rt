@@ -13,7 +13,7 @@ use ld_wire::encode;
 use std::alloc::Global;
 
 /// The frames of messages, one after the other.
-fn frames(alloc: Global, messages: &[Msg]) -> Result<Vec<u8>, NoMemory>
+pub(crate) fn frames(alloc: Global, messages: &[Msg]) -> Result<Vec<u8>, NoMemory>
     requires { AreMessages messages.now }
     ensures { IfOk result (λ bytes. bytes.items ≡ frames_of messages.now) }
 {

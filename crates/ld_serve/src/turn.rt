@@ -19,7 +19,7 @@ use ld_wire::Decoder;
 use std::alloc::Global;
 
 /// Why a message wasn't handled.
-fn stop_of(fault: NodeFault) -> Stop
+pub(crate) fn stop_of(fault: NodeFault) -> Stop
     requires needs_load { fault ≢ NodeFault.NeedsLoad }
     requires register { (refusal : RegisterFault) → fault ≢ NodeFault.Register refusal }
     ensures cause { IsNodeStop ⊥ result }

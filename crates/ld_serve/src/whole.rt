@@ -19,7 +19,7 @@ use ld_register::Register;
 use std::alloc::Global;
 
 /// Lets a lent disk go, as it is.
-fn let_go<D: Disk>(disk: &mut D, served: Result<(), Stop>) -> Result<(), Stop>
+pub(crate) fn let_go<D: Disk>(disk: &mut D, served: Result<(), Stop>) -> Result<(), Stop>
     ensures served { result ≡ served }
     ensures same { disk.new ≡ disk.old }
 {

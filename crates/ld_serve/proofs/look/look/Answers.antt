@@ -1,0 +1,18 @@
+use Rattle.std.proofs.Common.{List, sym, subst}
+use Rattle.ld_past.specs.Events.{Event}
+use Rattle.ld_serve.specs.Talking.{AreServed}
+use Rattle.ld_serve.proofs.Looks.{served_so, look_full, look_of_full}
+use Rattle.ld_serve.proofs.look.look.Goals as goal
+
+pub returns-in-Err-keep-clause-serving : goal.returns-in-Err-keep-clause-serving
+returns-in-Err-keep-clause-serving g c ts x =
+    let did = rw c.in-Ok-Came.field-0-is at c.in-Ok-Came.ensures.did in
+    subst (λ (d : List Event). AreServed d ts) (sym did) (look_full _ ts _ x)
+
+pub returns-in-Err-queue-clause-serving : goal.returns-in-Err-queue-clause-serving
+returns-in-Err-queue-clause-serving g c ts x =
+    let did = rw c.in-Ok-Of.field-0-is at c.in-Ok-Of.ensures.did in
+    subst (λ (d : List Event). AreServed d ts) (sym did) (look_of_full _ ts _ _ x)
+
+pub returns-in-Err-clause-serving : goal.returns-in-Err-clause-serving
+returns-in-Err-clause-serving g c ts x = subst (λ (d : List Event). AreServed d ts) (sym c.in-Err.ensures.did) (served_so _ ts _ x)

@@ -1,0 +1,98 @@
+// What is held of the peers of a crowd, and the line of those of whom a whole frame may be.
+ghost use Rattle.std.specs.Prelude.{◌≡◌, ℕ, None, Some, OnOk, IfSome, MatchOption, is_none, true};
+ghost use Rattle.ld_crowd.specs.Serving.{put};
+
+use ld_ids::NoMemory;
+use ld_wire::Decoder;
+use std::alloc::Global;
+use std::collections::{BTreeMap, VecDeque};
+
+/// What is held of a peer, and whether it is in the line.
+#[derive(Drop)]
+pub(crate) struct Chat {
+    decoder: Decoder,
+    is_in_line: bool,
+    ghost fine: { is_none decoder.fault ≡ true },
+}
+
+/// The peers that are there, by number, and the line of those of whom a whole frame may be held.
+#[derive(Drop)]
+pub(crate) struct Chats {
+    chats: BTreeMap<u64, Chat>,
+    line: VecDeque<u64>,
+}
+
+impl Chats {
+    ghost use Rattle.ld_serve.specs.Chats.{held_in};
+
+    /// Nobody is there.
+    pub(crate) fn new(alloc: Global) -> Chats
+        ensures { (q : ℕ) → held_in result.chats q ≡ None }
+    {
+        Chats {
+            chats: BTreeMap::new(alloc),
+            line: VecDeque::new(alloc),
+        }
+    }
+
+    /// Whether nobody is in the line.
+    pub(crate) fn is_idle(&self) -> bool {
+        self.line.is_empty()
+    }
+
+    /// This much is held of a peer, who comes behind the others in the line where that is asked for.
+    pub(crate) fn keep(
+        &mut self,
+        peer: u64,
+        decoder: Decoder,
+        is_in_line: bool,
+    ) -> Result<(), NoMemory>
+        requires fine { decoder.fault ≡ None }
+        ensures kept { OnOk result ((q : ℕ) → held_in self.new.chats q ≡ put peer (Some decoder.bytes) (held_in self.old.chats) q) }
+    {
+        if is_in_line {
+            self.line.push_back(peer)?;
+        }
+        let chat = Chat {
+            decoder,
+            is_in_line,
+        };
+        self.chats.insert(peer, chat)?;
+        Ok(())
+    }
+
+    /// A peer comes into the line, where it is there and isn't in it.
+    pub(crate) fn queue(&mut self, peer: u64) -> Result<(), NoMemory>
+        ensures same { OnOk result ((q : ℕ) → held_in self.new.chats q ≡ held_in self.old.chats q) }
+    {
+        let Some(chat) = self.chats.remove(&peer) else {
+            return Ok(());
+        };
+        if chat.is_in_line {
+            self.chats.insert(peer, chat)?;
+            return Ok(());
+        }
+        self.keep(peer, chat.decoder, true)
+    }
+
+    /// A peer isn't there any more.
+    pub(crate) fn remove(&mut self, peer: u64)
+        ensures gone { (q : ℕ) → held_in self.new.chats q ≡ put peer None (held_in self.old.chats) q }
+    {
+        let _ = self.chats.remove(&peer);
+    }
+
+    /// The first one in the line leaves it, with what is held of it, which is here no more. None where nobody is in the
+    /// line, or the first one isn't there any more.
+    pub(crate) fn next(&mut self) -> Option<(u64, Decoder)>
+        ensures next { MatchOption result ((q : ℕ) → held_in self.new.chats q ≡ held_in self.old.chats q) (λ p. (q : ℕ) → held_in self.old.chats q ≡ put p.0 (Some p.1.bytes) (held_in self.new.chats) q) }
+        ensures gone { IfSome result (λ p. held_in self.new.chats p.0 ≡ None) }
+        ensures fine { IfSome result (λ p. p.1.fault ≡ None) }
+    {
+        let peer = self.line.pop_front()?;
+        match self.chats.remove(&peer) {
+            Some(chat) => Some((peer, chat.decoder)),
+            None => None,
+        }
+    }
+}
