@@ -8,6 +8,7 @@ use ld_crowd::{Crowd, Heard, Turn};
 use ld_io::{Failed, NoMemory};
 use ld_past::Past;
 use std::alloc::Global;
+use std::io::ErrorKind;
 use std::net::{Net, SocketAddr};
 use std::time::{Clock, Duration};
 
@@ -65,9 +66,14 @@ impl<'a, R: Net + Clock> TcpCrowd<'a, R> {
         }
     }
 
-    /// The port that is bound, where one is.
-    pub fn bound(&self) -> Option<u16> {
+    /// The address that is bound, where one is.
+    pub fn bound(&self) -> Option<SocketAddr> {
         self.sockets.bound()
+    }
+
+    /// The system's reason for the last call that failed.
+    pub fn cause(&self) -> Option<ErrorKind> {
+        self.sockets.cause()
     }
 }
 

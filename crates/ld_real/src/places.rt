@@ -4,7 +4,7 @@ ghost use Rattle.ld_real.specs.Places.{address_of};
 
 use std::io;
 use std::io::{Error, ErrorKind};
-use std::net::{Ipv4Addr, Net, TcpListener, TcpStream, ToSocketAddrs};
+use std::net::{Ipv4Addr, Net, SocketAddr, TcpListener, TcpStream, ToSocketAddrs};
 use std::time::Duration;
 
 /// Where a link listens.
@@ -61,6 +61,17 @@ pub(crate) fn bound_at<R: Net<Listener = TcpListener, Stream = TcpStream>>(
     match listening {
         Listening::Port(port) => TcpListener::bind(rt, (Ipv4Addr::LOCALHOST, port)),
         Listening::At(address) => TcpListener::bind(rt, address),
+    }
+}
+
+/// The socket address of a place to listen at: where its host is a name, the first one that the resolver gives.
+pub fn resolved<R: Net>(rt: &R, listening: Listening<'_>) -> io::Result<SocketAddr> {
+    match listening {
+        Listening::Port(port) => Ok(SocketAddr::from((Ipv4Addr::LOCALHOST, port))),
+        Listening::At(address) => match address.to_socket_addrs(rt)?.next() {
+            Some(address) => Ok(address),
+            None => Err(ErrorKind::AddrNotAvailable.into()),
+        },
     }
 }
 

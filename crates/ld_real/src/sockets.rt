@@ -64,6 +64,8 @@ pub(crate) struct Sockets<'a, R: Net + Clock> {
     /// Somebody may wait to be let in.
     may_knock: bool,
     swept: Option<Instant>,
+    /// The system's reason for the last call that failed.
+    cause: Option<ErrorKind>,
 }
 
 impl<'a, R: Net + Clock> Sockets<'a, R> {
@@ -87,11 +89,25 @@ impl<'a, R: Net + Clock> Sockets<'a, R> {
             idle,
             may_knock: true,
             swept: None,
+            cause: None,
         }
     }
 
     /// Binds the port where it isn't bound.
     pub(crate) fn ready(&mut self) -> io::Result<()> {
+        let answer = self.bind();
+        if let Err(error) = &answer {
+            self.cause = Some(error.kind());
+        }
+        answer
+    }
+
+    /// The system's reason for the last call that failed.
+    pub(crate) fn cause(&self) -> Option<ErrorKind> {
+        self.cause
+    }
+
+    fn bind(&mut self) -> io::Result<()> {
         if self.door.is_none() {
             let mut listener = TcpListener::bind(self.rt, self.address)?;
             let poll = Poll::new(self.rt)?;
@@ -107,11 +123,11 @@ impl<'a, R: Net + Clock> Sockets<'a, R> {
         Ok(())
     }
 
-    /// The port that is bound, where one is.
-    pub(crate) fn bound(&self) -> Option<u16> {
+    /// The address that is bound, where one is.
+    pub(crate) fn bound(&self) -> Option<SocketAddr> {
         match &self.door {
             Some(door) => match door.listener.local_addr() {
-                Ok(address) => Some(address.port()),
+                Ok(address) => Some(address),
                 Err(_) => None,
             },
             None => None,
@@ -251,7 +267,17 @@ impl<'a, R: Net + Clock> Sockets<'a, R> {
     pub(crate) fn turn(&mut self, next: u64, may_wait: bool) -> io::Result<Turn>
         ensures named { IfOk result (IsNext next) }
     {
-        self.ready()?;
+        let answer = self.next_turn(next, may_wait);
+        if let Err(error) = &answer {
+            self.cause = Some(error.kind());
+        }
+        answer
+    }
+
+    fn next_turn(&mut self, next: u64, may_wait: bool) -> io::Result<Turn>
+        ensures named { IfOk result (IsNext next) }
+    {
+        self.bind()?;
         'turns: for _ in 0..u64::MAX {
             if self.let_in(next)? {
                 return Ok(Turn::Came(next));

@@ -16,7 +16,10 @@ fn bound(
     let address = SocketAddr::from((Ipv4Addr::LOCALHOST, 0));
     let mut crowd = TcpCrowd::new(rt, rt.alloc(), address, limit, idle);
     let _ = crowd.ready();
-    let port = crowd.bound().unwrap_or(0);
+    let port = match crowd.bound() {
+        Some(address) => address.port(),
+        None => 0,
+    };
     (crowd, SocketAddr::from((Ipv4Addr::LOCALHOST, port)))
 }
 
