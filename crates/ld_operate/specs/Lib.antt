@@ -1,0 +1,6 @@
+pub mod Asked
+pub mod Heard
+pub mod Looking
+pub mod Output
+pub mod Shown
+pub mod Status

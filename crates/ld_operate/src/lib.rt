@@ -1,0 +1,17 @@
+//! What an operator asks of a log: what its register and its nodes say of it.
+#![tactic(auto)]
+
+mod answers;
+mod asking;
+mod lines;
+mod looking;
+mod nodes;
+mod output;
+mod parts;
+mod registers;
+mod status;
+mod stop;
+
+pub use registers::register_lines;
+pub use status::status_lines;
+pub use stop::{LookStop, StatusStop};

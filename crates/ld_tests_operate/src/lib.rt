@@ -1,0 +1,9 @@
+//! Tests of what an operator asks of a log.
+#![tactic(auto)]
+
+#[cfg(test)]
+mod filling;
+#[cfg(test)]
+mod registers;
+#[cfg(test)]
+mod status;
