@@ -32,8 +32,8 @@ pub struct Found<'a, 'b> {
     pub etcd: Option<Cause>,
     /// Whether the address was bound.
     pub is_listening: bool,
-    /// Which calls at the address failed.
-    pub port: Tried,
+    /// The system's reason for the last failed call at the address.
+    pub port: Option<ErrorKind>,
     /// Which calls to nodes failed.
     pub nodes: Tried,
 }
@@ -133,9 +133,11 @@ fn file_of<'a>(which: Which, places: &'a Places) -> &'a str {
 /// How the commands are spelt.
 const USAGE: &str = "ld: usage: ld replay < SCHEDULE
 ld:        ld exercise --seed N --events M
-ld:        ld node --id N --config TEXT --store FILE --register FILE (--port P | --listen HOST:PORT) --turns K [--format]
+ld:        ld node --id N --config TEXT --store FILE --register FILE (--port P | --listen HOST:PORT) (--turns K | --peers N [--idle S] [--turns K]) [--format]
 ld:        ld append --config TEXT --log L --register FILE (--port P | --at TEXT) --rounds K [--limit MS] [--batches] < PAYLOADS
-ld:        ld tail --config TEXT --log L --register FILE (--port P | --at TEXT) --rounds K [--limit MS] --from LSN --until LSN [--one-copy | --messages]";
+ld:        ld tail --config TEXT --log L --register FILE (--port P | --at TEXT) --rounds K [--limit MS] --from LSN --until LSN [--one-copy | --messages]
+ld:        ld register --config TEXT --log L --register FILE [--from E]
+ld:        ld status --config TEXT --log L --register FILE (--port P | --at TEXT) [--limit MS] [--epochs K]";
 
 /// Whether the arguments begin with this command's name.
 fn is_command(words: &[String], name: &str) -> bool {
@@ -169,14 +171,25 @@ fn tell_link(rt: &HostRuntime, found: &Found<'_, '_>) -> Result<()> {
         Listen::At(address) if found.is_listening => {
             eprintln!(rt; "ld: {} gives no further connection", address.as_str())
         }
+        listen => tell_not_listening(rt, listen, found.port),
+    }
+}
+
+/// Tells why a node can't listen there.
+pub fn tell_not_listening(
+    rt: &HostRuntime,
+    listen: &Listen,
+    cause: Option<ErrorKind>,
+) -> Result<()> {
+    match listen {
         Listen::Port(port) => eprintln!(rt;
             "ld: listening on port {port} failed: {}",
-            port_reason(found.port.cause())
+            port_reason(cause)
         ),
         Listen::At(address) => eprintln!(rt;
             "ld: listening on {} failed: {}",
             address.as_str(),
-            address_reason(found.port.cause())
+            address_reason(cause)
         ),
     }
 }
@@ -201,8 +214,12 @@ fn tell_node(rt: &HostRuntime, before: &str, node: u8, reach: &Reach) -> Result<
 
 /// Tells which nodes didn't answer, and where they are.
 fn tell_nodes(rt: &HostRuntime, found: &Found<'_, '_>) -> Result<()> {
-    eprint!(rt; "ld: not done in these rounds: calls to nodes failed")?;
-    let mut before = ": no answer from";
+    let mut before = if is_command(found.words, "status") {
+        "ld: no answer from"
+    } else {
+        eprint!(rt; "ld: not done in these rounds: calls to nodes failed")?;
+        ": no answer from"
+    };
     for node in 1..17u8 {
         if found.nodes.has_failed(node) {
             tell_node(rt, before, node, &found.places.reach)?;

@@ -2,13 +2,15 @@
 #![tactic(auto)]
 
 mod causes;
+mod crowds;
 mod etcd_causes;
 mod files;
 mod places;
 mod reasons;
 mod registers;
 
-use causes::{Found, tell, tell_early, tell_one_file, tell_status};
+use causes::{Found, tell, tell_early, tell_not_listening, tell_one_file, tell_status};
+use crowds::{gathering, is_by_port};
 use etcd_causes::{tell_no_mark, tell_place};
 use files::{are_one_file, store_of};
 use ld_cli::{Status, run};
@@ -16,12 +18,14 @@ use ld_dial::Framed;
 use ld_etcd::{Cause, PlaceFault, place_of};
 use ld_hints::Recent;
 use ld_io::Source;
-use ld_real::{Announced, FileDisk, StdSink, StdSource, TcpLink, Tried};
+use ld_real::{Announced, AnnouncedCrowd, FileDisk, StdSink, StdSource, TcpCrowd, TcpLink, Tried};
 use ld_words::{FileName, Listen, Places, Reach, places};
 use places::{addresses_of, dialing, listening, listening_text};
 use registers::NamedRegister;
 use std::io::{Error, ErrorKind, IsTerminal, writer};
 use std::process::ExitCode;
+use std::rt::Stderr;
+use std::time::Duration;
 
 fn main(rt: HostRuntime) -> ExitCode {
     let status = match words_of(&rt) {
@@ -60,6 +64,7 @@ fn perform(rt: &HostRuntime, words: &[String]) -> Status {
         listen: Listen::Port(0),
         reach: Reach::Above(0),
         limit: 0,
+        company: None,
     });
     if are_one_file(rt, &places) {
         let _ = tell_one_file(rt);
@@ -76,7 +81,7 @@ struct Failures {
     is_in_etcd: bool,
     etcd: Option<Cause>,
     is_listening: bool,
-    port: Tried,
+    port: Option<ErrorKind>,
     nodes: Tried,
 }
 
@@ -127,13 +132,21 @@ fn call<I: Source>(
     let Ok(addresses) = addresses_of(alloc, &places.reach) else {
         return Err(ends_early(rt, words, Status::NoMemory));
     };
-    // A person is told; what reads standard error otherwise finds the status first.
-    let out = if rt.stderr().is_terminal() {
-        Some(rt.stderr())
-    } else {
-        None
+    let mut link = Announced::new(rt, listening(&places.listen), person(rt), text);
+    let Ok(text) = String::from_str(alloc, listening_text(&places.listen)) else {
+        return Err(ends_early(rt, words, Status::NoMemory));
     };
-    let mut link = Announced::new(rt, listening(&places.listen), out, text);
+    let (address, company) = match gathering(rt, places) {
+        Ok(found) => found,
+        Err(error) => {
+            let _ = tell_status(rt, Status::Link);
+            let _ = tell_not_listening(rt, &places.listen, Some(error.kind()));
+            return Err(Status::Link);
+        }
+    };
+    let idle = Duration::from_secs(u64::from(company.idle));
+    let sockets = TcpCrowd::new(rt, alloc, address, company.peers as usize, idle);
+    let mut crowd = AnnouncedCrowd::new(sockets, is_by_port(&places.listen), person(rt), text);
     let mut register = register_of(rt, places.register.as_str())?;
     let dialing = dialing(&places.reach, &addresses);
     let mut nodes = Framed::new(alloc, TcpLink::dialing(rt, dialing, places.limit));
@@ -147,17 +160,30 @@ fn call<I: Source>(
         &mut register,
         &mut link,
         &mut nodes,
+        &mut crowd,
     );
     let failures = Failures {
         disk: disk.cause(),
         register: register.file_cause(),
         is_in_etcd: register.is_in_etcd(),
         etcd: register.etcd_cause(),
-        is_listening: link.is_listening(),
-        port: link.tried(),
+        is_listening: link.is_listening() || crowd.is_listening(),
+        port: match crowd.cause() {
+            Some(cause) => Some(cause),
+            None => link.tried().cause(),
+        },
         nodes: nodes.into_link().tried(),
     };
     Ok((status, failures))
+}
+
+/// Where a person is told what a node does; what reads standard error otherwise finds the status first.
+fn person(rt: &HostRuntime) -> Option<Stderr> {
+    if rt.stderr().is_terminal() {
+        Some(rt.stderr())
+    } else {
+        None
+    }
 }
 
 /// The register of a name: records in etcd, or a file. A status where there is none, which was told.

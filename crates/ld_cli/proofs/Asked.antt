@@ -5,8 +5,11 @@ use Rattle.clap.specs.Walk.{Text}
 use Rattle.ld_words.specs.declared.command.AppendWords.{AppendWords}
 use Rattle.ld_words.specs.declared.command.NodeWords.{NodeWords}
 use Rattle.ld_words.specs.declared.command.TailWords.{TailWords}
+use Rattle.ld_words.specs.declared.command.CrowdWords.{CrowdWords}
+use Rattle.ld_words.specs.declared.command.RegisterWords.{RegisterWords}
+use Rattle.ld_words.specs.declared.command.StatusWords.{StatusWords}
 use Rattle.ld_words.specs.declared.command.Command.{Command}
-use Rattle.ld_words.specs.declared.command.Command.TheVariants.{Node, Append, Tail}
+use Rattle.ld_words.specs.declared.command.Command.TheVariants.{Node, Crowd, Append, Tail, Register, Status}
 use Rattle.ld_words.specs.Meaning.{Asks, IsNoCommand}
 use Rattle.ld_words.proofs.OneCommand.{one_command}
 
@@ -38,3 +41,24 @@ tail_or other _ = other
 
 pub one_tail : (t u : TailWords) → Tail t ≡ Tail u → t ≡ u
 one_tail t u same = ap (tail_or t) same
+
+abbrev crowd_or : CrowdWords → Command → CrowdWords
+crowd_or other (Crowd w) = w
+crowd_or other _ = other
+
+pub one_crowd : (v w : CrowdWords) → Crowd v ≡ Crowd w → v ≡ w
+one_crowd v w same = ap (crowd_or v) same
+
+abbrev register_or : RegisterWords → Command → RegisterWords
+register_or other (Register r) = r
+register_or other _ = other
+
+pub one_register : (q r : RegisterWords) → Register q ≡ Register r → q ≡ r
+one_register q r same = ap (register_or q) same
+
+abbrev status_or : StatusWords → Command → StatusWords
+status_or other (Status s) = s
+status_or other _ = other
+
+pub one_status : (s t : StatusWords) → Status s ≡ Status t → s ≡ t
+one_status s t same = ap (status_or s) same

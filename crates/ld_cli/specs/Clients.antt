@@ -2,7 +2,7 @@
 use Rattle.std.specs.Prelude.{ℕ, ◌≤◌, ◌<◌, List, Bool, if◌then◌else◌}
 use Rattle.ld_serve.specs.declared.stop.Which.TheVariants as journals
 use Rattle.ld_words.specs.declared.command.Command.{Command}
-use Rattle.ld_words.specs.declared.command.Command.TheVariants.{Append, Tail}
+use Rattle.ld_words.specs.declared.command.Command.TheVariants.{Crowd, Append, Tail, Register as Told, Status as Asked}
 use Rattle.ld_words.specs.Meaning.{Asks}
 use Rattle.clap.specs.Walk.{Text}
 use Rattle.ld_msg.specs.Register.{Register}
@@ -18,9 +18,43 @@ Drives (Append w) = Unit {0}
 Drives (Tail t) = Unit {0}
 Drives _ = ⊥
 
--- the arguments ask for none that does
-abbrev pub AskForNoDrive : List Text → Type 0
-AskForNoDrive words = (command : Command) → Asks words command → Drives command → ⊥
+-- the command looks at the register as a sequencer, a reader or an operator does
+abbrev pub Looks : Command → Type 0
+Looks (Append w) = Unit {0}
+Looks (Tail t) = Unit {0}
+Looks (Told r) = Unit {0}
+Looks (Asked s) = Unit {0}
+Looks _ = ⊥
+
+-- the command tells what stands in the register
+abbrev pub Shows : Command → Type 0
+Shows (Told r) = Unit {0}
+Shows (Asked s) = Unit {0}
+Shows _ = ⊥
+
+-- the command has peers at once
+abbrev pub Gathers : Command → Type 0
+Gathers (Crowd w) = Unit {0}
+Gathers _ = ⊥
+
+-- the command's peers are others than those of the link
+abbrev pub Calls : Command → Type 0
+Calls (Append w) = Unit {0}
+Calls (Tail t) = Unit {0}
+Calls (Crowd w) = Unit {0}
+Calls (Asked s) = Unit {0}
+Calls _ = ⊥
+
+-- the command dials nodes
+abbrev pub Dials : Command → Type 0
+Dials (Append w) = Unit {0}
+Dials (Tail t) = Unit {0}
+Dials (Asked s) = Unit {0}
+Dials _ = ⊥
+
+-- the arguments ask for no such command
+abbrev pub AskForNone : (Command → Type 0) → List Text → Type 0
+AskForNone Is words = (command : Command) → Asks words command → Is command → ⊥
 
 -- the status of an end; after the last round it tells whether the nodes' count of failures rose
 abbrev pub status_of : Ended → Bool → Status

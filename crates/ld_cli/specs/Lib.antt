@@ -11,3 +11,5 @@ pub mod Exercise
 pub mod Serving
 pub mod Clients
 pub mod Payloads
+pub mod Crowds
+pub mod Looks

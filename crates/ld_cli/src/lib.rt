@@ -2,11 +2,13 @@
 #![tactic(auto)]
 
 mod clients;
+mod crowding;
 mod events;
 mod exercise;
 mod input;
 mod law;
 mod lines;
+mod looks;
 mod payloads;
 mod perform;
 mod replay;

@@ -43,13 +43,12 @@ pub(crate) fn served<D: Disk, G: Register, L: Link>(
     ensures register { RegisterFaults (G.faults reg.old) (G.faults reg.new) result }
     ensures link { LinkFaults (L.faults link.old) (L.faults link.new) result }
 {
-    let turns = u64::from(node.turns);
     match serve(
         alloc,
         node.id,
         &node.config,
         node.format,
-        turns,
+        node.turns,
         disk,
         reg,
         link,
@@ -60,7 +59,7 @@ pub(crate) fn served<D: Disk, G: Register, L: Link>(
 }
 
 /// The status of a stop.
-fn status_of(stop: Stop) -> Status
+pub(crate) fn status_of(stop: Stop) -> Status
     ensures { result ≡ told stop }
 {
     match stop {

@@ -1,5 +1,5 @@
 // The top call.
-ghost use Rattle.std.specs.Prelude.{◌≡◌, ◌⊎◌, ⊤, ℕ, List, Some, true, false, codes, length, drop, map, string_bytes};
+ghost use Rattle.std.specs.Prelude.{◌≡◌, ◌⊎◌, ⊤, ℕ, List, [], Some, true, false, codes, length, drop, map, string_bytes};
 ghost use Rattle.ld_io.specs.Causes.{Rose};
 ghost use Rattle.ld_io.specs.Input.{left_of};
 ghost use Rattle.ld_link.specs.Peers.{Peers};
@@ -13,8 +13,11 @@ ghost use Rattle.ld_words.specs.Bounds.{HasBounds};
 ghost use Rattle.ld_words.specs.declared.command.AppendWords.{AppendWords as AppendWanted};
 ghost use Rattle.ld_words.specs.declared.command.NodeWords.{NodeWords as Wanted};
 ghost use Rattle.ld_words.specs.declared.command.TailWords.{TailWords as TailWanted};
+ghost use Rattle.ld_words.specs.declared.command.CrowdWords.{CrowdWords as CrowdWanted};
+ghost use Rattle.ld_words.specs.declared.command.RegisterWords.{RegisterWords as RegisterWanted};
+ghost use Rattle.ld_words.specs.declared.command.StatusWords.{StatusWords as StatusWanted};
 ghost use Rattle.ld_words.specs.declared.command.Command.{Command as Wish};
-ghost use Rattle.ld_words.specs.declared.command.Command.TheVariants.{Replay, Exercise, Node as Serve, Append, Tail};
+ghost use Rattle.ld_words.specs.declared.command.Command.TheVariants.{Replay, Exercise, Node as Serve, Crowd as Gather, Append, Tail, Register as Tell, Status as Ask};
 ghost use Rattle.ld_words.specs.Meaning.{Asks, IsNoCommand, HasNoPlaces, AskForNoPlaces};
 ghost use Rattle.ld_machine.specs.Config.{first_spec};
 ghost use Rattle.ld_machine.specs.State.{State};
@@ -27,16 +30,23 @@ ghost use Rattle.ld_append.specs.Acting.{MayCrowd, HoldsSome, LacksRoom};
 ghost use Rattle.ld_append.specs.Appends.{HasNone as HasNoSequencers, IsAppended, IsEndOfAppend, IsRefused};
 ghost use Rattle.ld_tail.specs.Tails.{HasNone as HasNoReaders, IsTailed, IsTailEnd};
 ghost use Rattle.ld_cli.specs.Payloads.{payloads_in};
-ghost use Rattle.ld_cli.specs.Clients.{Drives, AskForNoDrive, EndsDrive, OnlyLooks};
+ghost use Rattle.ld_cli.specs.Clients.{Drives, Looks, Shows, Gathers, Calls, Dials, AskForNone, EndsDrive, OnlyLooks};
+ghost use Rattle.ld_cli.specs.Crowds.{IsCrowded};
+ghost use Rattle.ld_operate.specs.Heard.{IsBroken as HasFallenSilent, IsStatusStop};
+ghost use Rattle.ld_operate.specs.Status.{HasStatus};
+ghost use Rattle.ld_cli.specs.Looks.{EndsRegister, EndsStatus};
 ghost use Rattle.ld_cli.specs.Ends.{EndsBy, IsReplayed, IsSchedule, Completes};
 ghost use Rattle.ld_cli.specs.Exercise.{EndsExercise};
 ghost use Rattle.ld_cli.specs.Serving.{EndsServing, DiskFaults, RegisterFaults, LinkFaults};
 
 use crate::clients::{appended, tailed};
+use crate::crowding::crowded;
 use crate::exercise::exercised;
+use crate::looks::{asked, registered};
 use crate::replay::replayed;
 use crate::serving::served;
 use crate::status::Status;
+use ld_crowd::Crowd;
 use ld_dial::Nodes;
 use ld_disk::Disk;
 use ld_io::{Sink, Source};
@@ -48,7 +58,7 @@ use std::alloc::Global;
 /// Runs the command that the arguments name: a schedule from the input to the output, a made schedule to the output, a node
 /// over the disk, the register and the link, or a sequencer or a reader over the register and the nodes. What a command has
 /// no use for isn't called.
-pub fn run<I: Source, O: Sink, D: Disk, G: Register, L: Link, N: Nodes>(
+pub fn run<I: Source, O: Sink, D: Disk, G: Register, L: Link, N: Nodes, C: Crowd>(
     alloc: Global,
     words: &[String],
     input: &mut I,
@@ -57,7 +67,9 @@ pub fn run<I: Source, O: Sink, D: Disk, G: Register, L: Link, N: Nodes>(
     reg: &mut G,
     link: &mut L,
     nodes: &mut N,
+    crowd: &mut C,
 ) -> Status
+    requires nobody { C.did crowd.old ≡ [] }
     ensures usage { result ≡ Status.Usage → IsNoCommand (map string_bytes words.now) }
     ensures refused { IsNoCommand (map string_bytes words.now) → (result ≡ Status.Usage) ⊎ (result ≡ Status.NoMemory) }
 
@@ -95,6 +107,24 @@ pub fn run<I: Source, O: Sink, D: Disk, G: Register, L: Link, N: Nodes>(
     ensures unasked { (n : Wanted) → Asks (map string_bytes words.now) (Serve n) → n.format ≡ false → reg.new ≡ reg.old }
     ensures formatted { (n : Wanted) (bytes : List ℕ) → Asks (map string_bytes words.now) (Serve n) → D.seen disk.old ≡ Some bytes → (IsBlank bytes → ⊥) → reg.new ≡ reg.old }
     ensures drawn { (n : Wanted) → Asks (map string_bytes words.now) (Serve n) → G.told reg.old → ChangedOrNot (G.may_hold reg.old) (G.may_hold reg.new) (λ c. after_draw c n.id) }
+
+    // `node` with several peers at once: each frame that was taken, in the order over all peers, is one step of the node; of each
+    // peer what was read is its frames and then less than one or what begins none, and what was said to it are the answers to its
+    // own frames, in order. Each stop has its cause, and the rest is as of a node that serves one peer after the other.
+    ensures crowded { (w : CrowdWanted) → Asks (map string_bytes words.now) (Gather w) → IsCrowded (D.faults disk.old) (D.faults disk.new) (D.seen disk.old) (D.seen disk.new) (D.may_leave disk.old) (D.may_leave disk.new)
+        (G.faults reg.old) (G.faults reg.new) (G.told reg.old) (G.holds reg.old) (G.holds reg.new) (G.may_hold reg.old) (G.may_hold reg.new) (G.damaged reg.old)
+        (C.faults crowd.old) (C.faults crowd.new) (C.did crowd.new) crowd.old crowd.new reg.old reg.new w result }
+
+    // `register`: the text of what the register holds of the log was written, or, where it stopped, a part of it from the front,
+    // and why.
+    ensures registered { (r : RegisterWanted) → Asks (map string_bytes words.now) (Tell r) → EndsRegister (G.told reg.old) (G.damaged reg.old) (G.faults reg.old) (G.faults reg.new) (O.faults out.old) (O.faults out.new) (G.holds reg.old) (O.written out.old) (O.written out.new) r result }
+
+    // `status`: the same of the last epochs, and then what each node of the configuration answers. At Ok each was asked and told all;
+    // at Link one was silent, whose call failed or which had ended.
+    ensures asked { (s : StatusWanted) → Asks (map string_bytes words.now) (Ask s) → EndsStatus (HasStatus (G.holds reg.old) (N.tells nodes.old) (N.tells nodes.new) (N.silent nodes.new) s.config s.log s.epochs (O.written out.old) (O.written out.new))
+        (HasFallenSilent (N.faults nodes.old) (N.faults nodes.new) (N.endings nodes.old) (N.endings nodes.new))
+        (IsStatusStop (λ place. G.told reg.old → G.damaged reg.old place) (G.faults reg.old) (G.faults reg.new) (O.faults out.old) (O.faults out.new) (N.off nodes.new)) result }
+    ensures shows { (asked : Wish) → Asks (map string_bytes words.now) asked → Shows asked → OnlyLooks (G.told reg.old) (G.told reg.new) (G.may_hold reg.old) (G.may_hold reg.new) }
 
     // `tail`: where the nodes and the register tell what stands there, from any sound state of the written machine with these
     // and without readers: the drive is steps of the machine, the opening of the reader and then round by round a poll and
@@ -141,8 +171,8 @@ pub fn run<I: Source, O: Sink, D: Disk, G: Register, L: Link, N: Nodes>(
     ensures read { result ≡ Status.Read → Rose (I.faults input.old) (I.faults input.new) }
     ensures write { result ≡ Status.Write → Rose (O.faults out.old) (O.faults out.new) }
     ensures disk { DiskFaults (D.faults disk.old) (D.faults disk.new) result }
-    ensures register { AskForNoDrive (map string_bytes words.now) → RegisterFaults (G.faults reg.old) (G.faults reg.new) result }
-    ensures link { AskForNoDrive (map string_bytes words.now) → LinkFaults (L.faults link.old) (L.faults link.new) result }
+    ensures register { AskForNone Looks (map string_bytes words.now) → RegisterFaults (G.faults reg.old) (G.faults reg.new) result }
+    ensures link { AskForNone Calls (map string_bytes words.now) → LinkFaults (L.faults link.old) (L.faults link.new) result }
 
     // What a command has no use for stays as it was.
     ensures unread { (seed events : ℕ) → Asks (map string_bytes words.now) (Exercise seed events) → input.new ≡ input.old }
@@ -150,18 +180,21 @@ pub fn run<I: Source, O: Sink, D: Disk, G: Register, L: Link, N: Nodes>(
     ensures untouched { IsNoCommand (map string_bytes words.now) → (input.new ≡ input.old) × (out.new ≡ out.old) }
     ensures outside { AskForNoPlaces (map string_bytes words.now) → (disk.new ≡ disk.old) × (reg.new ≡ reg.old) × (link.new ≡ link.old) }
     ensures driven { (asked : Wish) → Asks (map string_bytes words.now) asked → Drives asked → (disk.new ≡ disk.old) × (link.new ≡ link.old) }
-    ensures undriven { AskForNoDrive (map string_bytes words.now) → nodes.new ≡ nodes.old }
+    ensures undriven { AskForNone Dials (map string_bytes words.now) → nodes.new ≡ nodes.old }
+    ensures alone { AskForNone Gathers (map string_bytes words.now) → crowd.new ≡ crowd.old }
+    ensures gathers { (w : CrowdWanted) → Asks (map string_bytes words.now) (Gather w) → (input.new ≡ input.old) × (out.new ≡ out.old) × (link.new ≡ link.old) }
+    ensures untold { (asked : Wish) → Asks (map string_bytes words.now) asked → Shows asked → (input.new ≡ input.old) × (disk.new ≡ disk.old) × (link.new ≡ link.old) }
     ensures unfed { (t : TailWanted) → Asks (map string_bytes words.now) (Tail t) → input.new ≡ input.old }
 {
     match read(alloc, words) {
-        Ok(Some(command)) => carry_out(alloc, command, input, out, disk, reg, link, nodes),
+        Ok(Some(command)) => carry_out(alloc, command, input, out, disk, reg, link, nodes, crowd),
         Ok(None) => Status::Usage,
         Err(_) => Status::NoMemory,
     }
 }
 
 /// Runs a command.
-fn carry_out<I: Source, O: Sink, D: Disk, G: Register, L: Link, N: Nodes>(
+fn carry_out<I: Source, O: Sink, D: Disk, G: Register, L: Link, N: Nodes, C: Crowd>(
     alloc: Global,
     command: Command,
     input: &mut I,
@@ -170,8 +203,10 @@ fn carry_out<I: Source, O: Sink, D: Disk, G: Register, L: Link, N: Nodes>(
     reg: &mut G,
     link: &mut L,
     nodes: &mut N,
+    crowd: &mut C,
 ) -> Status
     requires bounds { HasBounds command }
+    requires nobody { C.did crowd.old ≡ [] }
     ensures usage { result ≡ Status.Usage → ⊥ }
     ensures replayed { command ≡ Replay → (all : List ℕ) → I.may_be input.new all → EndsBy (drop (length (I.gave input.old)) all) (Some (O.written out.old)) (Some (O.written out.new)) result }
     ensures fed { command ≡ Replay → (all : List ℕ) → I.may_be input.new all → I.may_be input.old all }
@@ -193,6 +228,14 @@ fn carry_out<I: Source, O: Sink, D: Disk, G: Register, L: Link, N: Nodes>(
     ensures unasked { (n : Wanted) → command ≡ Serve n → n.format ≡ false → reg.new ≡ reg.old }
     ensures formatted { (n : Wanted) (bytes : List ℕ) → command ≡ Serve n → D.seen disk.old ≡ Some bytes → (IsBlank bytes → ⊥) → reg.new ≡ reg.old }
     ensures drawn { (n : Wanted) → command ≡ Serve n → G.told reg.old → ChangedOrNot (G.may_hold reg.old) (G.may_hold reg.new) (λ c. after_draw c n.id) }
+    ensures crowded { (w : CrowdWanted) → command ≡ Gather w → IsCrowded (D.faults disk.old) (D.faults disk.new) (D.seen disk.old) (D.seen disk.new) (D.may_leave disk.old) (D.may_leave disk.new)
+        (G.faults reg.old) (G.faults reg.new) (G.told reg.old) (G.holds reg.old) (G.holds reg.new) (G.may_hold reg.old) (G.may_hold reg.new) (G.damaged reg.old)
+        (C.faults crowd.old) (C.faults crowd.new) (C.did crowd.new) crowd.old crowd.new reg.old reg.new w result }
+    ensures registered { (r : RegisterWanted) → command ≡ Tell r → EndsRegister (G.told reg.old) (G.damaged reg.old) (G.faults reg.old) (G.faults reg.new) (O.faults out.old) (O.faults out.new) (G.holds reg.old) (O.written out.old) (O.written out.new) r result }
+    ensures asked { (s : StatusWanted) → command ≡ Ask s → EndsStatus (HasStatus (G.holds reg.old) (N.tells nodes.old) (N.tells nodes.new) (N.silent nodes.new) s.config s.log s.epochs (O.written out.old) (O.written out.new))
+        (HasFallenSilent (N.faults nodes.old) (N.faults nodes.new) (N.endings nodes.old) (N.endings nodes.new))
+        (IsStatusStop (λ place. G.told reg.old → G.damaged reg.old place) (G.faults reg.old) (G.faults reg.new) (O.faults out.old) (O.faults out.new) (N.off nodes.new)) result }
+    ensures shows { Shows command → OnlyLooks (G.told reg.old) (G.told reg.new) (G.may_hold reg.old) (G.may_hold reg.new) }
     ensures tailed { (t : TailWanted) (s : State) (far : Far) → command ≡ Tail t → N.tells nodes.old t.of.config far → Begins (HasNoReaders (G.tells reg.old)) t.of.config s far
         → (N.silent nodes.new ≡ true) ⊎ EndsDrive (N.faults nodes.old) (N.faults nodes.new)
         (IsTailed (record { name = codes "r"; log = t.of.log; from = t.from; until = t.until; style = t.style }) (IsBroken (N.faults nodes.old) (N.faults nodes.new) (N.endings nodes.old) (N.endings nodes.new)) t.of.rounds (N.tells nodes.new) (G.tells reg.new) t.of.config s (Some (O.written out.old)) (Some (O.written out.new))) result }
@@ -210,20 +253,26 @@ fn carry_out<I: Source, O: Sink, D: Disk, G: Register, L: Link, N: Nodes>(
     ensures read { result ≡ Status.Read → Rose (I.faults input.old) (I.faults input.new) }
     ensures write { result ≡ Status.Write → Rose (O.faults out.old) (O.faults out.new) }
     ensures disk { DiskFaults (D.faults disk.old) (D.faults disk.new) result }
-    ensures register { (Drives command → ⊥) → RegisterFaults (G.faults reg.old) (G.faults reg.new) result }
-    ensures link { (Drives command → ⊥) → LinkFaults (L.faults link.old) (L.faults link.new) result }
+    ensures register { (Looks command → ⊥) → RegisterFaults (G.faults reg.old) (G.faults reg.new) result }
+    ensures link { (Calls command → ⊥) → LinkFaults (L.faults link.old) (L.faults link.new) result }
     ensures unread { (seed events : ℕ) → command ≡ Exercise seed events → input.new ≡ input.old }
     ensures streams { (n : Wanted) → command ≡ Serve n → (input.new ≡ input.old) × (out.new ≡ out.old) }
     ensures outside { HasNoPlaces command → (disk.new ≡ disk.old) × (reg.new ≡ reg.old) × (link.new ≡ link.old) }
     ensures driven { Drives command → (disk.new ≡ disk.old) × (link.new ≡ link.old) }
-    ensures undriven { (Drives command → ⊥) → nodes.new ≡ nodes.old }
+    ensures undriven { (Dials command → ⊥) → nodes.new ≡ nodes.old }
+    ensures alone { (Gathers command → ⊥) → crowd.new ≡ crowd.old }
+    ensures gathers { (w : CrowdWanted) → command ≡ Gather w → (input.new ≡ input.old) × (out.new ≡ out.old) × (link.new ≡ link.old) }
+    ensures untold { Shows command → (input.new ≡ input.old) × (disk.new ≡ disk.old) × (link.new ≡ link.old) }
     ensures unfed { (t : TailWanted) → command ≡ Tail t → input.new ≡ input.old }
 {
     match command {
         Command::Replay => replayed(alloc, input, out),
         Command::Exercise { seed, events } => exercised(alloc, seed, events, out),
         Command::Node(node) => served(alloc, &node, disk, reg, link),
+        Command::Crowd(words) => crowded(alloc, &words, disk, reg, crowd),
         Command::Append(append) => appended(alloc, &append, input, out, reg, nodes),
         Command::Tail(tail) => tailed(alloc, &tail, out, reg, nodes),
+        Command::Register(words) => registered(alloc, &words, out, reg),
+        Command::Status(words) => asked(alloc, &words, out, reg, nodes),
     }
 }

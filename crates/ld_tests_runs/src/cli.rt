@@ -1,5 +1,6 @@
 // Commands over what is in memory.
 use ld_cli::*;
+use ld_crowd::{MemCrowd, Step};
 use ld_dial::Framed;
 use ld_disk::{Disk, MemDisk};
 use ld_io::{MemSink, MemSource};
@@ -68,6 +69,7 @@ fn performed(
 ) -> Result<(Status, Vec<u8>, Vec<u8>), Fail> {
     let words = strings(alloc, words)?;
     let mut nodes = Framed::new(alloc, no_peer(alloc)?);
+    let mut crowd = MemCrowd::new(alloc, Vec::new(alloc), Vec::new(alloc), Vec::new(alloc))?;
     let status = run(
         alloc,
         &words,
@@ -77,6 +79,7 @@ fn performed(
         &mut o.register,
         &mut o.link,
         &mut nodes,
+        &mut crowd,
     );
     let written = Vec::from_slice(alloc, out.bytes())?;
     let sent = o.link.sent(0).unwrap_or(b"");
@@ -307,5 +310,91 @@ fn a_tail_ends_beside_a_register_that_cant_be_read(rt: HostRuntime) -> Result<()
     for (fails, status) in [(true, Status::Register), (false, damaged)] {
         assert_eq!(rt; tailed_beside(rt.alloc(), fails)?, status);
     }
+    Ok(())
+}
+
+/// The words of a node that formats a blank store and serves several peers at once.
+const CROWD: [&str; 13] = [
+    "node",
+    "--id",
+    "1",
+    "--config",
+    "{\"nodes\":[1],\"logs\":[{\"id\":1,\"set\":[1],\"r\":1}]}",
+    "--store",
+    "store",
+    "--register",
+    "register",
+    "--port",
+    "0",
+    "--peers=2",
+    "--format",
+];
+
+/// A crowd of two peers: the first one says what isn't the beginning of a frame, and before it ends the second one asks, in two
+/// parts.
+fn two_peers(alloc: Global) -> Result<MemCrowd, Fail> {
+    let mut peers = Vec::new(alloc);
+    peers.push(Vec::from_slice(alloc, b"\x00\x00\x00\x01\xff")?)?;
+    peers.push(Vec::from_slice(alloc, ASK)?)?;
+    let steps = [
+        Step::Comes,
+        Step::Comes,
+        Step::Has(1, 20),
+        Step::Has(0, 5),
+        Step::Has(1, 11),
+        Step::Has(1, 0),
+    ];
+    Ok(MemCrowd::new(
+        alloc,
+        peers,
+        Vec::from_slice(alloc, &steps)?,
+        Vec::new(alloc),
+    )?)
+}
+
+/// How a node ends that serves these two at once, whether nothing was said to the first one, and whether the second one was
+/// answered.
+fn gathered(alloc: Global) -> Result<(Status, bool, bool), Fail> {
+    let words = strings(alloc, &CROWD)?;
+    let mut o = outside_with(alloc, no_peer(alloc)?)?;
+    let mut nodes = Framed::new(alloc, no_peer(alloc)?);
+    let mut crowd = two_peers(alloc)?;
+    let status = run(
+        alloc,
+        &words,
+        &mut source(alloc, b"", &[])?,
+        &mut sink(alloc, &[])?,
+        &mut o.store,
+        &mut o.register,
+        &mut o.link,
+        &mut nodes,
+        &mut crowd,
+    );
+    let none = crowd.told(0).unwrap_or(b"?");
+    let said = crowd.told(1).unwrap_or(b"");
+    Ok((status, none == b"".as_slice(), said == ENDED))
+}
+
+#[test]
+fn a_node_serves_two_at_once(rt: HostRuntime) -> Result<(), Fail> {
+    assert_eq!(rt; gathered(rt.alloc())?, (Status::Ok, true, true));
+    Ok(())
+}
+
+/// The words that ask what a register says.
+const REGISTER: [&str; 7] = [
+    "register",
+    "--config",
+    "{\"nodes\":[1],\"logs\":[{\"id\":1,\"set\":[1],\"r\":1}]}",
+    "--log",
+    "1",
+    "--register",
+    "register",
+];
+
+#[test]
+fn a_new_register_says_so(rt: HostRuntime) -> Result<(), Fail> {
+    let line = "log 1 epoch 0 closed 0 swaps 0\n";
+    assert_eq!(rt; alone(rt.alloc(), &REGISTER, line)?, (Status::Ok, true));
     Ok(())
 }

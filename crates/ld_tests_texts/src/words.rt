@@ -1,6 +1,8 @@
 // Words and the command that they ask for, one line for each command. Words that ask for none stand in tools/lines.py, for the built program.
 use ld_msg::Style;
-use ld_words::{Command, Listen, LogWords, NodeWords, Places, Reach, places, read, reason};
+use ld_words::{
+    Command, CrowdWords, Listen, LogWords, NodeWords, Places, Reach, places, read, reason,
+};
 use std::alloc::Global;
 use std::test::Fail;
 
@@ -35,10 +37,24 @@ fn of_node(node: &NodeWords) -> [u64; 7] {
         3,
         u64::from(node.id.number()),
         of_listen(&node.listen),
-        u64::from(node.turns),
+        node.turns,
         u64::from(node.format),
         0,
         0,
+    ]
+}
+
+/// The numbers of the words of a node that serves several peers at once.
+fn of_crowd(words: &CrowdWords) -> [u64; 7] {
+    let node = of_node(&words.node);
+    [
+        node[0],
+        node[1],
+        node[2],
+        node[3],
+        node[4],
+        u64::from(words.company.peers),
+        u64::from(words.company.idle),
     ]
 }
 
@@ -70,6 +86,7 @@ fn of_command(command: &Option<Command>) -> [u64; 7] {
         Some(Command::Replay) => [1, 0, 0, 0, 0, 0, 0],
         Some(Command::Exercise { seed, events }) => [2, *seed, u64::from(*events), 0, 0, 0, 0],
         Some(Command::Node(node)) => of_node(node),
+        Some(Command::Crowd(words)) => of_crowd(words),
         Some(Command::Append(words)) => of_log(4, &words.of, u64::from(words.batches), 0, 0),
         Some(Command::Tail(words)) => of_log(
             5,
@@ -78,6 +95,24 @@ fn of_command(command: &Option<Command>) -> [u64; 7] {
             words.from.value(),
             words.until.value(),
         ),
+        Some(Command::Register(words)) => [
+            6,
+            u64::from(words.log.number()),
+            u64::from(words.from),
+            0,
+            0,
+            0,
+            0,
+        ],
+        Some(Command::Status(words)) => [
+            7,
+            u64::from(words.log.number()),
+            of_reach(&words.reach),
+            u64::from(words.limit),
+            u64::from(words.epochs),
+            0,
+            0,
+        ],
         None => [0; 7],
     }
 }
@@ -96,6 +131,49 @@ const APPEND: &str =
 
 const TAIL: &str =
     "tail --config {\"nodes\":[1],\"logs\":[{\"id\":1,\"set\":[1],\"r\":1}]} --register r --log 1 --port 7000 --rounds 9 --from e0n1 --until e1n0 --one-copy";
+
+const CROWD: &str =
+    "node --config {\"nodes\":[1],\"logs\":[{\"id\":1,\"set\":[1],\"r\":1}]} --store s --register r --id 1 --port 0 --peers 1000";
+
+const REGISTER: &str =
+    "register --config {\"nodes\":[1],\"logs\":[{\"id\":7,\"set\":[1],\"r\":1}]} --register r --log 7";
+
+const STATUS: &str =
+    "status --config {\"nodes\":[1],\"logs\":[{\"id\":7,\"set\":[1],\"r\":1}]} --register r --log 7 --port 7000";
+
+#[test]
+fn words_ask_for_crowds_and_looks(rt: HostRuntime) -> Result<(), Fail> {
+    let most = u64::MAX;
+    for (line, more, expected) in [
+        (CROWD, "", [3, 1, 0, most, 0, 1_000, 60]),
+        (
+            CROWD,
+            " --turns 5 --idle 86400",
+            [3, 1, 0, 5, 0, 1_000, 86_400],
+        ),
+        (CROWD, " --idle 86401", [0, 0, 0, 0, 0, 0, 0]),
+        (CROWD, " --idle 0", [0, 0, 0, 0, 0, 0, 0]),
+        (REGISTER, "", [6, 7, 1, 0, 0, 0, 0]),
+        (
+            REGISTER,
+            " --from 4294967295",
+            [6, 7, 4_294_967_295, 0, 0, 0, 0],
+        ),
+        (REGISTER, " --from 0", [0, 0, 0, 0, 0, 0, 0]),
+        (STATUS, "", [7, 7, 7_000, 10_000, 16, 0, 0]),
+        (
+            STATUS,
+            " --epochs 1 --limit 100",
+            [7, 7, 7_000, 100, 1, 0, 0],
+        ),
+        (STATUS, " --epochs 0", [0, 0, 0, 0, 0, 0, 0]),
+    ] {
+        let mut words = line.to_string(rt.alloc())?;
+        words.push_str(more)?;
+        assert_eq!(rt; asked(rt.alloc(), words.as_str())?, expected);
+    }
+    Ok(())
+}
 
 #[test]
 fn words_ask_for_commands(rt: HostRuntime) -> Result<(), Fail> {

@@ -1,8 +1,8 @@
 -- Words ask for at most one command.
-use Rattle.std.proofs.Common.{◌≡◌, ◌≤◌, ◌^◌, ◌-◌, ◌∙◌, List, None, Some, Ok, ℕ, Bool, refl, ap, ap₂, sym, subst, arith, codes, decimal}
+use Rattle.std.proofs.Common.{◌≡◌, ◌≤◌, ◌^◌, ◌-◌, ◌+◌, ◌*◌, ◌∙◌, List, None, Some, Ok, ℕ, Bool, refl, ap, ap₂, sym, subst, arith, codes, decimal}
 use Rattle.std.specs.Prelude.{Option, MatchOption, slice_index}
 use Rattle.std.proofs.lemmas.Fmt.{decimal_injective}
-use Rattle.clap.specs.Walk.{Row, Text}
+use Rattle.clap.specs.Walk.{Row, Text, first_of}
 use Rattle.serde_json.specs.Read.{read}
 use Rattle.ld_lsn.specs.Number.{lsn_text}
 use Rattle.ld_lsn.proofs.Texts.{one_lsn as one_number_text}
@@ -13,14 +13,18 @@ use Rattle.ld_msg.specs.declared.style.Style.{Style}
 use Rattle.ld_words.specs.declared.command.LogWords.{LogWords}
 use Rattle.ld_words.specs.declared.command.AppendWords.{AppendWords}
 use Rattle.ld_words.specs.declared.command.TailWords.{TailWords}
+use Rattle.ld_words.specs.declared.command.Company.{Company}
+use Rattle.ld_words.specs.declared.command.CrowdWords.{CrowdWords}
+use Rattle.ld_words.specs.declared.command.RegisterWords.{RegisterWords}
+use Rattle.ld_words.specs.declared.command.StatusWords.{StatusWords}
 use Rattle.ld_words.specs.declared.command.Places.{Places}
 use Rattle.ld_words.specs.declared.address.Listen.{Listen}
 use Rattle.ld_words.specs.declared.address.Listen.TheVariants as listens
 use Rattle.ld_words.specs.declared.address.Reach.{Reach}
 use Rattle.ld_words.specs.declared.address.Reach.TheVariants as reaches
 use Rattle.ld_words.specs.declared.command.Command.{Command}
-use Rattle.ld_words.specs.declared.command.Command.TheVariants.{Replay, Exercise, Node, Append, Tail}
-use Rattle.ld_words.specs.Meaning.{Is, IsNumber, IsLsn, IsConfig, Says, IsMember, IsLogOf, AreFiles, IsNodeWords, IsLogWords, IsAppendWords, IsRange, IsTailWords, IsListen, IsReach, Spells, IsNamed, Asks, ArePlacesOf, HasNoPlaces, AskForPlaces, AskForNoPlaces}
+use Rattle.ld_words.specs.declared.command.Command.TheVariants.{Replay, Exercise, Node, Crowd, Append, Tail, Register, Status}
+use Rattle.ld_words.specs.Meaning.{Is, IsNumber, IsLsn, IsConfig, Says, IsMember, IsLogOf, AreFiles, IsNodeWords, IsLogWords, IsAppendWords, IsRange, IsTailWords, IsTurns, IsInTurn, IsCrowdWords, IsRegisterWords, IsStatusWords, IsListen, IsReach, Spells, IsNumberOr, IsNamed, Asks, ArePlacesOf, HasNoPlaces, AskForPlaces, AskForNoPlaces}
 use Rattle.ld_words.proofs.OneAddress.{one_at}
 
 -- an argument has one value
@@ -79,6 +83,12 @@ one_of : (o : Option Text) (least most otherwise m n : ℕ) → most ≤ 2 ^ 64 
 one_of None least most otherwise m n small x y = x ∙ sym y
 one_of (Some text) least most otherwise m n small x y = one_spelt text least most m n small x y
 
+one_turns : (rows : List Row) (o : Option Text) (m n : ℕ)
+    → MatchOption o (IsNumber (codes "turns") rows 1 1000000000 m) (λ _. IsNumberOr (codes "turns") rows 1 1000000000 (2 ^ 64 - 1) m)
+    → MatchOption o (IsNumber (codes "turns") rows 1 1000000000 n) (λ _. IsNumberOr (codes "turns") rows 1 1000000000 (2 ^ 64 - 1) n) → m ≡ n
+one_turns rows None m n x y = one_number _ rows 1 1000000000 m n (omega arith) x y
+one_turns rows (Some text) m n x y = one_of _ 1 1000000000 (2 ^ 64 - 1) m n (omega arith) x y
+
 node_of : ℕ → Config → Text → Text → Listen → ℕ → Bool → NodeWords
 node_of id config store register listen turns format =
     record { id = id; config = config; store = store; register = register; listen = listen; turns = turns; format = format }
@@ -96,7 +106,7 @@ one_node rows a b x y =
     (one_text _ rows a.store b.store x.files.first y.files.first)
     (one_text _ rows a.register b.register x.files.second y.files.second)
     (one_listen rows a.listen b.listen x.listen y.listen)
-    (one_number _ rows 1 1000000000 a.turns b.turns (omega arith) x.turns y.turns)
+    (one_turns rows (first_of (codes "peers") rows) a.turns b.turns x.turns y.turns)
     (x.format ∙ sym y.format)
 
 one_lsn : (name : Text) (rows : List Row) (v w : ℕ) → IsLsn name rows v → IsLsn name rows w → v ≡ w
@@ -116,6 +126,42 @@ log_in rows log text config w number is says words =
     subst (λ l. IsLogOf l config) x (subst (λ c. IsLogOf w.log c) y words.known)
 
 -- a text that says no configuration, and a number that is no log of its configuration, are of no log's words
+-- the same of the register's words
+log_told : (rows : List Row) (log : ℕ) (text : Text) (config : Config) (r : RegisterWords) → IsNumber (codes "log") rows 1 65535 log
+    → Is (codes "config") rows text → Says text config → IsRegisterWords rows r → IsLogOf log config
+log_told rows log text config r number is says words =
+    let x = one_number _ rows 1 65535 r.log log (omega arith) words.log number in
+    let y = one_config _ rows r.config config words.config (record { text = text; is = is; says = says }) in
+    subst (λ l. IsLogOf l config) x (subst (λ c. IsLogOf r.log c) y words.known)
+
+pub no_register_config : (rows : List Row) (text : Text) → Is (codes "config") rows text → (r : RegisterWords) → IsRegisterWords rows r → ((c : Config) → Says text c → ⊥) → ⊥
+no_register_config rows text is r words none = none r.config (says_of rows text r.config is words.config)
+
+pub no_register_log : (rows : List Row) (log : ℕ) (text : Text) (config : Config) → IsNumber (codes "log") rows 1 65535 log → Is (codes "config") rows text
+    → Says text config → (r : RegisterWords) → IsRegisterWords rows r → (IsLogOf log config → ⊥) → ⊥
+no_register_log rows log text config number is says r words none = none (log_told rows log text config r number is says words)
+
+-- the same of a status's words
+log_asked : (rows : List Row) (log : ℕ) (text : Text) (config : Config) (s : StatusWords) → IsNumber (codes "log") rows 1 65535 log
+    → Is (codes "config") rows text → Says text config → IsStatusWords rows s → IsLogOf log config
+log_asked rows log text config s number is says words =
+    let x = one_number _ rows 1 65535 s.log log (omega arith) words.log number in
+    let y = one_config _ rows s.config config words.config (record { text = text; is = is; says = says }) in
+    subst (λ l. IsLogOf l config) x (subst (λ c. IsLogOf s.log c) y words.known)
+
+pub no_status_config : (rows : List Row) (text : Text) → Is (codes "config") rows text → (s : StatusWords) → IsStatusWords rows s → ((c : Config) → Says text c → ⊥) → ⊥
+no_status_config rows text is s words none = none s.config (says_of rows text s.config is words.config)
+
+pub no_status_log : (rows : List Row) (log : ℕ) (text : Text) (config : Config) → IsNumber (codes "log") rows 1 65535 log → Is (codes "config") rows text
+    → Says text config → (s : StatusWords) → IsStatusWords rows s → (IsLogOf log config → ⊥) → ⊥
+no_status_log rows log text config number is says s words none = none (log_asked rows log text config s number is says words)
+
+pub no_status_reach : (rows : List Row) (text : Text) (config : Config) → Is (codes "config") rows text → Says text config → (s : StatusWords) → IsStatusWords rows s
+    → ((r : Reach) → IsReach rows config.nodes r → ⊥) → ⊥
+no_status_reach rows text config is says s words none =
+    let same = one_config _ rows s.config config words.config (record { text = text; is = is; says = says }) in
+    none s.reach (subst (λ c. IsReach rows c.nodes s.reach) same words.reach)
+
 pub no_log_config : (rows : List Row) (text : Text) → Is (codes "config") rows text → (w : LogWords) → IsLogWords rows w → ((c : Config) → Says text c → ⊥) → ⊥
 no_log_config rows text is w words none = none w.config (says_of rows text w.config is words.config)
 
@@ -182,32 +228,93 @@ one_tail rows a b x y =
     (one_lsn _ rows a.until b.until x.range.until y.range.until)
     (one_style _ a.style b.style x.style y.style)
 
--- the second letter of a text, which tells the names of the commands apart
-abbrev second : Text → ℕ
-second name = slice_index name 1
+one_crowd : (rows : List Row) (a b : CrowdWords) → IsCrowdWords rows a → IsCrowdWords rows b → a ≡ b
+one_crowd rows a b x y =
+    let peers = one_number _ rows 2 1000 a.company.peers b.company.peers (omega arith) x.peers y.peers in
+    let idle = one_of _ 1 86400 60 a.company.idle b.company.idle (omega arith) x.idle y.idle in
+    let companies : a.company ≡ b.company = ap₂ (λ (p i : ℕ). record { peers = p; idle = i }) peers idle in
+    ap₂ (λ (n : NodeWords) (c : Company). record { node = n; company = c }) (one_node rows a.node b.node x.node y.node) companies
 
-abbrev letter_of : Command → ℕ
-letter_of Replay = 101
-letter_of (Exercise seed events) = 120
-letter_of (Node n) = 111
-letter_of (Append w) = 112
-letter_of (Tail t) = 97
+register_of : Config → ℕ → Text → ℕ → RegisterWords
+register_of config log register from = record { config = config; log = log; register = register; from = from }
 
-called : (name : Text) (rows : List Row) (c : Command) → IsNamed name rows c → second name ≡ letter_of c
-called name rows Replay x = ap second x
-called name rows (Exercise seed events) x = ap second x.0
-called name rows (Node n) x = ap second x.0
-called name rows (Append w) x = ap second x.0
-called name rows (Tail t) x = ap second x.0
+foursome : {A B C X : Type 0} (f : A → B → C → B → X) (a b : A) (c d : B) (g h : C) (i j : B) → a ≡ b → c ≡ d → g ≡ h → i ≡ j → f a c g i ≡ f b d h j
+foursome f a b c d g h i j e1 e2 e3 e4 = cc
+
+-- there is no epoch 0
+pub some_epoch : (o : Option Text) (n : ℕ) → MatchOption o (n ≡ 1) (λ text. Spells text 1 (2 ^ 32 - 1) n) → 1 ≤ n
+some_epoch None n x = omega (arith, x)
+some_epoch (Some text) n x = x.from
+
+one_register : (rows : List Row) (a b : RegisterWords) → IsRegisterWords rows a → IsRegisterWords rows b → a ≡ b
+unfolding register_of
+one_register rows a b x y =
+    foursome register_of a.config b.config a.log b.log a.register b.register a.from b.from
+    (one_config _ rows a.config b.config x.config y.config)
+    (one_number _ rows 1 65535 a.log b.log (omega arith) x.log y.log)
+    (one_text _ rows a.register b.register x.register y.register)
+    (one_of _ 1 (2 ^ 32 - 1) 1 a.from b.from (omega arith) x.from y.from)
+
+pub some_epochs : (o : Option Text) (n : ℕ) → MatchOption o (n ≡ 16) (λ text. Spells text 1 1000000 n) → 1 ≤ n
+some_epochs None n x = omega (arith, x)
+some_epochs (Some text) n x = x.from
+
+status_of : Config → ℕ → Text → Reach → ℕ → ℕ → StatusWords
+status_of config log register reach limit epochs = record { config = config; log = log; register = register; reach = reach; limit = limit; epochs = epochs }
+
+one_status : (rows : List Row) (a b : StatusWords) → IsStatusWords rows a → IsStatusWords rows b → a ≡ b
+unfolding status_of
+one_status rows a b x y =
+    let configs = one_config _ rows a.config b.config x.config y.config in
+    sixfold status_of a.config b.config a.log b.log a.register b.register a.reach b.reach a.limit b.limit a.epochs b.epochs
+    configs
+    (one_number _ rows 1 65535 a.log b.log (omega arith) x.log y.log)
+    (one_text _ rows a.register b.register x.register y.register)
+    (one_reach rows b.config.nodes a.reach b.reach (subst (λ c. IsReach rows c.nodes a.reach) configs x.reach) y.reach)
+    (one_of _ 100 60000 10000 a.limit b.limit (omega arith) x.limit y.limit)
+    (one_of _ 1 1000000 16 a.epochs b.epochs (omega arith) x.epochs y.epochs)
+
+-- the number of a node's peers is given, or it isn't
+in_turn_or_crowd : (rows : List Row) (c : CrowdWords) → IsInTurn rows → IsCrowdWords rows c → ⊥
+in_turn_or_crowd rows c x y = let e : None ≡ Some (decimal c.company.peers) = sym x.peers ∙ y.peers.text in absurd cc
+
+-- the second and the third letter of a text, which tell the names of the commands apart
+abbrev letters : Text → ℕ
+letters name = slice_index name 1 + 1000 * slice_index name 2
+
+abbrev letters_of : Command → ℕ
+letters_of Replay = 112101
+letters_of (Exercise seed events) = 101120
+letters_of (Node n) = 100111
+letters_of (Crowd c) = 100111
+letters_of (Append w) = 112112
+letters_of (Tail t) = 105097
+letters_of (Register r) = 103101
+letters_of (Status s) = 97116
+
+called : (name : Text) (rows : List Row) (c : Command) → IsNamed name rows c → letters name ≡ letters_of c
+called name rows Replay x = ap letters x
+called name rows (Exercise seed events) x = ap letters x.0
+called name rows (Node n) x = ap letters x.0
+called name rows (Crowd c) x = ap letters x.0
+called name rows (Append w) x = ap letters x.0
+called name rows (Tail t) x = ap letters x.0
+called name rows (Register r) x = ap letters x.0
+called name rows (Status s) x = ap letters x.0
 
 one_named : (name : Text) (rows : List Row) (a b : Command) → IsNamed name rows a → IsNamed name rows b → a ≡ b
 one_named name rows Replay Replay x y = refl
 one_named name rows (Exercise seed events) (Exercise other more) x y =
     ap₂ Exercise (one_number _ rows 0 (2 ^ 64 - 1) seed other (omega arith) x.1.seed y.1.seed) (one_number _ rows 0 100000 events more (omega arith) x.1.events y.1.events)
 one_named name rows (Node n) (Node m) x y = ap Node (one_node rows n m x.1 y.1)
+one_named name rows (Node n) (Crowd c) x y = absurd (in_turn_or_crowd rows c x.2 y.1)
+one_named name rows (Crowd c) (Node n) x y = absurd (in_turn_or_crowd rows c y.2 x.1)
+one_named name rows (Crowd c) (Crowd d) x y = ap Crowd (one_crowd rows c d x.1 y.1)
 one_named name rows (Append w) (Append v) x y = ap Append (one_append rows w v x.1 y.1)
 one_named name rows (Tail t) (Tail u) x y = ap Tail (one_tail rows t u x.1 y.1)
-one_named name rows a b x y = let e : letter_of a ≡ letter_of b = sym (called name rows a x) ∙ called name rows b y in absurd (omega (arith, e))
+one_named name rows (Register r) (Register s) x y = ap Register (one_register rows r s x.1 y.1)
+one_named name rows (Status s) (Status t) x y = ap Status (one_status rows s t x.1 y.1)
+one_named name rows a b x y = let e : letters_of a ≡ letters_of b = sym (called name rows a x) ∙ called name rows b y in absurd (omega (arith, e))
 
 pub one_command : (words : List Text) (a b : Command) → Asks words a → Asks words b → a ≡ b
 one_command words a b x y =

@@ -4,8 +4,10 @@ use Rattle.ld_ids.specs.Set.{members}
 use Rattle.ld_config.specs.Bounds.{IsInBounds}
 use Rattle.ld_words.specs.declared.command.LogWords.{LogWords}
 use Rattle.ld_words.specs.declared.command.TailWords.{TailWords}
+use Rattle.ld_words.specs.declared.command.RegisterWords.{RegisterWords}
+use Rattle.ld_words.specs.declared.command.StatusWords.{StatusWords}
 use Rattle.ld_words.specs.declared.command.Command.{Command}
-use Rattle.ld_words.specs.declared.command.Command.TheVariants.{Replay, Exercise, Node, Append, Tail}
+use Rattle.ld_words.specs.declared.command.Command.TheVariants.{Replay, Exercise, Node, Crowd, Append, Tail, Register, Status}
 use Rattle.ld_words.specs.declared.address.Reach.{Reach}
 use Rattle.ld_words.specs.declared.address.Reach.TheVariants as reaches
 use Rattle.ld_words.specs.Meaning.{has_log}
@@ -27,10 +29,26 @@ pub record IsTailInBounds (t : TailWords) : Type 0 where
   pub some : 1 ≤ t.from
   pub order : t.from ≤ t.until
 
+-- the configuration is in its bounds, and the log is one of its logs; there is no epoch 0
+pub record IsRegisterInBounds (r : RegisterWords) : Type 0 where
+  pub config : IsInBounds r.config
+  pub log : has_log r.config r.log ≡ true
+  pub some : 1 ≤ r.from
+
+-- the configuration is in its bounds, the log is one of its logs, and each of its nodes can be found; there is an epoch to tell
+pub record IsStatusInBounds (s : StatusWords) : Type 0 where
+  pub config : IsInBounds s.config
+  pub log : has_log s.config s.log ≡ true
+  pub nodes : HasEach s.config.nodes s.reach
+  pub some : 1 ≤ s.epochs
+
 -- a configuration is in its bounds, its log is one of its logs, and numbers are in their order
 abbrev pub HasBounds : Command → Type 0
 HasBounds Replay = Unit {0}
 HasBounds (Exercise seed events) = Unit {0}
 HasBounds (Node n) = IsInBounds n.config
+HasBounds (Crowd c) = IsInBounds c.node.config
 HasBounds (Append w) = IsLogInBounds w.of
 HasBounds (Tail t) = IsTailInBounds t
+HasBounds (Register r) = IsRegisterInBounds r
+HasBounds (Status s) = IsStatusInBounds s

@@ -34,7 +34,7 @@ files_shape = record (new_shape (codes "node")) {
 abbrev pub node_shape : Shape
 node_shape = record (new_shape (codes "node")) {
   rules = option_rule (codes "id") ∷ option_rule (codes "config") ∷ option_rule (codes "store") ∷ option_rule (codes "register")
-      ∷ choice_rule (codes "port") ∷ choice_rule (codes "listen") ∷ option_rule (codes "turns") ∷ flag_rule (codes "format") ∷ [];
+      ∷ choice_rule (codes "port") ∷ choice_rule (codes "listen") ∷ choice_rule (codes "turns") ∷ choice_rule (codes "peers") ∷ choice_rule (codes "idle") ∷ flag_rule (codes "format") ∷ [];
 }
 
 -- a command over a log
@@ -57,6 +57,19 @@ tail_shape = record (new_shape (codes "tail")) {
       ∷ flag_rule (codes "one-copy") ∷ flag_rule (codes "messages") ∷ [];
 }
 
+-- the command that tells what the register says of a log
+abbrev pub register_shape : Shape
+register_shape = record (new_shape (codes "register")) {
+  rules = option_rule (codes "config") ∷ option_rule (codes "log") ∷ option_rule (codes "register") ∷ choice_rule (codes "from") ∷ [];
+}
+
+-- the command that tells what the register and each node say of a log
+abbrev pub status_shape : Shape
+status_shape = record (new_shape (codes "status")) {
+  rules = option_rule (codes "config") ∷ option_rule (codes "log") ∷ option_rule (codes "register")
+      ∷ choice_rule (codes "port") ∷ choice_rule (codes "at") ∷ choice_rule (codes "limit") ∷ choice_rule (codes "epochs") ∷ [];
+}
+
 -- clap's command has this shape, and nothing in it is for other commands
 pub record IsCommand (shape : Shape) (command : Command) : Type 0 where
   pub app : app_of command ≡ record { top = shape; subs = [] }
@@ -72,7 +85,7 @@ ld_app = record {
     disable_help_subcommand = true;
     subcommand_required = true;
   };
-  subs = new_shape (codes "replay") ∷ exercise_shape ∷ node_shape ∷ append_shape ∷ tail_shape ∷ [];
+  subs = new_shape (codes "replay") ∷ exercise_shape ∷ node_shape ∷ append_shape ∷ tail_shape ∷ register_shape ∷ status_shape ∷ [];
 }
 
 abbrev pub if_fine : {X : Type 0} → Kinds → Option X → Option X

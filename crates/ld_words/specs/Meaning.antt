@@ -21,6 +21,9 @@ use Rattle.ld_msg.specs.declared.style.Style.TheVariants.{EachCopy, OneCopy, OfM
 use Rattle.ld_words.specs.declared.command.LogWords.{LogWords}
 use Rattle.ld_words.specs.declared.command.AppendWords.{AppendWords}
 use Rattle.ld_words.specs.declared.command.TailWords.{TailWords}
+use Rattle.ld_words.specs.declared.command.CrowdWords.{CrowdWords}
+use Rattle.ld_words.specs.declared.command.RegisterWords.{RegisterWords}
+use Rattle.ld_words.specs.declared.command.StatusWords.{StatusWords}
 use Rattle.ld_words.specs.declared.command.Places.{Places}
 use Rattle.ld_words.specs.declared.address.NodeAddress.{NodeAddress}
 use Rattle.ld_words.specs.declared.address.Listen.{Listen}
@@ -28,7 +31,7 @@ use Rattle.ld_words.specs.declared.address.Listen.TheVariants as listens
 use Rattle.ld_words.specs.declared.address.Reach.{Reach}
 use Rattle.ld_words.specs.declared.address.Reach.TheVariants as reaches
 use Rattle.ld_words.specs.declared.command.Command.{Command}
-use Rattle.ld_words.specs.declared.command.Command.TheVariants.{Replay, Exercise, Node, Append, Tail}
+use Rattle.ld_words.specs.declared.command.Command.TheVariants.{Replay, Exercise, Node, Crowd, Append, Tail, Register, Status}
 use Rattle.ld_words.specs.Grammar.{found}
 
 -- ---- values
@@ -178,14 +181,29 @@ pub record AreFiles (rows : List Row) (store register : Text) : Type 0 where
   pub second : Is (codes "register") rows register
   pub apart : store ≢ register
 
+-- after how many turns a node ends; one that serves several peers at once ends after 2^64-1 of them where the argument isn't given
+abbrev pub IsTurns : List Row → ℕ → Type 0
+IsTurns rows turns = MatchOption (first_of (codes "peers") rows) (IsNumber (codes "turns") rows 1 1000000000 turns) (λ _. IsNumberOr (codes "turns") rows 1 1000000000 (2 ^ 64 - 1) turns)
+
 pub record IsNodeWords (rows : List Row) (n : NodeWords) : Type 0 where
   pub id : IsNumber (codes "id") rows 1 16 n.id
   pub config : IsConfig (codes "config") rows n.config
   pub member : IsMember n.id n.config
   pub files : AreFiles rows n.store n.register
   pub listen : IsListen rows n.listen
-  pub turns : IsNumber (codes "turns") rows 1 1000000000 n.turns
+  pub turns : IsTurns rows n.turns
   pub format : n.format ≡ is_true (first_of (codes "format") rows)
+
+-- nothing is said of several peers at once
+pub record IsInTurn (rows : List Row) : Type 0 where
+  pub peers : IsAbsent (codes "peers") rows
+  pub idle : IsAbsent (codes "idle") rows
+
+-- how many peers are there at once at most, and how long one may be silent: a minute where the argument isn't given
+pub record IsCrowdWords (rows : List Row) (c : CrowdWords) : Type 0 where
+  pub node : IsNodeWords rows c.node
+  pub peers : IsNumber (codes "peers") rows 2 1000 c.company.peers
+  pub idle : IsNumberOr (codes "idle") rows 1 86400 60 c.company.idle
 
 pub record IsLogWords (rows : List Row) (w : LogWords) : Type 0 where
   pub config : IsConfig (codes "config") rows w.config
@@ -219,13 +237,34 @@ pub record IsTailWords (rows : List Row) (t : TailWords) : Type 0 where
   pub range : IsRange rows t.from t.until
   pub style : style_of (is_true (first_of (codes "one-copy") rows)) (is_true (first_of (codes "messages") rows)) ≡ Some t.style
 
+-- the first epoch that is told is 1 where the argument isn't given
+pub record IsRegisterWords (rows : List Row) (r : RegisterWords) : Type 0 where
+  pub config : IsConfig (codes "config") rows r.config
+  pub log : IsNumber (codes "log") rows 1 65535 r.log
+  pub known : IsLogOf r.log r.config
+  pub register : Is (codes "register") rows r.register
+  pub from : IsNumberOr (codes "from") rows 1 (2 ^ 32 - 1) 1 r.from
+
+-- the last 16 epochs are told where the argument isn't given
+pub record IsStatusWords (rows : List Row) (s : StatusWords) : Type 0 where
+  pub config : IsConfig (codes "config") rows s.config
+  pub log : IsNumber (codes "log") rows 1 65535 s.log
+  pub known : IsLogOf s.log s.config
+  pub register : Is (codes "register") rows s.register
+  pub reach : IsReach rows s.config.nodes s.reach
+  pub limit : IsNumberOr (codes "limit") rows 100 60000 10000 s.limit
+  pub epochs : IsNumberOr (codes "epochs") rows 1 1000000 16 s.epochs
+
 -- the command has this name, and these values of its arguments
 abbrev pub IsNamed : Text → List Row → Command → Type 0
 IsNamed name rows Replay = name ≡ codes "replay"
 IsNamed name rows (Exercise seed events) = (name ≡ codes "exercise") × IsExercise rows seed events
-IsNamed name rows (Node n) = (name ≡ codes "node") × IsNodeWords rows n
+IsNamed name rows (Node n) = (name ≡ codes "node") × IsNodeWords rows n × IsInTurn rows
+IsNamed name rows (Crowd c) = (name ≡ codes "node") × IsCrowdWords rows c
 IsNamed name rows (Append w) = (name ≡ codes "append") × IsAppendWords rows w
 IsNamed name rows (Tail t) = (name ≡ codes "tail") × IsTailWords rows t
+IsNamed name rows (Register r) = (name ≡ codes "register") × IsRegisterWords rows r
+IsNamed name rows (Status s) = (name ≡ codes "status") × IsStatusWords rows s
 
 -- the command is what clap finds in the arguments
 pub record IsFound (found : Option (Text × List Row)) (command : Command) : Type 0 where
@@ -250,6 +289,11 @@ pub record ArePlacesOfNode (n : NodeWords) (places : Places) : Type 0 where
   pub register : places.register ≡ n.register
   pub listen : places.listen ≡ n.listen
 
+-- and these are its peers, where it serves several at once
+pub record ArePlacesOfCrowd (c : CrowdWords) (places : Places) : Type 0 where
+  pub node : ArePlacesOfNode c.node places
+  pub company : places.company ≡ Some c.company
+
 -- these are the file of the log, which needs no store, and where its nodes are
 pub record ArePlacesOfLog (w : LogWords) (places : Places) : Type 0 where
   pub store : places.store ≡ None
@@ -257,21 +301,39 @@ pub record ArePlacesOfLog (w : LogWords) (places : Places) : Type 0 where
   pub reach : places.reach ≡ w.reach
   pub limit : places.limit ≡ w.limit
 
+-- this is the file of the register, and there is nothing else
+pub record ArePlacesOfRegister (r : RegisterWords) (places : Places) : Type 0 where
+  pub store : places.store ≡ None
+  pub register : places.register ≡ r.register
+
+-- this is the file of the register, and where the nodes are
+pub record ArePlacesOfStatus (s : StatusWords) (places : Places) : Type 0 where
+  pub store : places.store ≡ None
+  pub register : places.register ≡ s.register
+  pub reach : places.reach ≡ s.reach
+  pub limit : places.limit ≡ s.limit
+
 -- these are the files of the command, and where it listens or dials
 abbrev pub ArePlacesOf : Command → Places → Type 0
 ArePlacesOf Replay places = ⊥
 ArePlacesOf (Exercise seed events) places = ⊥
-ArePlacesOf (Node n) places = ArePlacesOfNode n places
+ArePlacesOf (Node n) places = ArePlacesOfNode n places × (places.company ≡ None)
+ArePlacesOf (Crowd c) places = ArePlacesOfCrowd c places
 ArePlacesOf (Append w) places = ArePlacesOfLog w.of places
 ArePlacesOf (Tail t) places = ArePlacesOfLog t.of places
+ArePlacesOf (Register r) places = ArePlacesOfRegister r places
+ArePlacesOf (Status s) places = ArePlacesOfStatus s places
 
 -- the command is one that has no files, and that neither listens nor dials
 abbrev pub HasNoPlaces : Command → Type 0
 HasNoPlaces Replay = Unit {0}
 HasNoPlaces (Exercise seed events) = Unit {0}
 HasNoPlaces (Node n) = ⊥
+HasNoPlaces (Crowd c) = ⊥
 HasNoPlaces (Append w) = ⊥
 HasNoPlaces (Tail t) = ⊥
+HasNoPlaces (Register r) = ⊥
+HasNoPlaces (Status s) = ⊥
 
 -- the arguments ask for a command of these places
 pub record AskForPlaces (words : List Text) (places : Places) : Type 0 where

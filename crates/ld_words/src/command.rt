@@ -13,12 +13,18 @@ pub enum Command {
     /// The schedule that is made from the seed, with this many events (at most 100,000), is run, and a summary of it
     /// written to standard output.
     Exercise { seed: u64, events: u32 },
-    /// A node serves its peers.
+    /// A node serves its peers, one after the other.
     Node(NodeWords),
+    /// A node serves its peers, several at once.
+    Crowd(CrowdWords),
     /// Payloads from standard input are appended to a log.
     Append(AppendWords),
     /// Records of a log are read, and written to standard output.
     Tail(TailWords),
+    /// What the register says of a log is written to standard output.
+    Register(RegisterWords),
+    /// What the register and each node say of a log is written to standard output.
+    Status(StatusWords),
 }
 
 /// What the arguments say of a node that serves.
@@ -34,10 +40,28 @@ pub struct NodeWords {
     pub register: FileName,
     /// Where the node listens.
     pub listen: Listen,
-    /// After how many turns the node ends, 1 to 1,000,000,000.
-    pub turns: u32,
+    /// After how many turns the node ends: 1 to 1,000,000,000, or 2^64-1 where the arguments don't say it.
+    pub turns: u64,
     /// Whether a blank store is formatted first.
     pub format: bool,
+}
+
+/// What the arguments say of a node that serves several peers at once.
+#[derive(Drop)]
+pub struct CrowdWords {
+    /// The node.
+    pub node: NodeWords,
+    /// Its peers.
+    pub company: Company,
+}
+
+/// How many peers a node has, and how long it waits for them.
+#[derive(Clone, Copy)]
+pub struct Company {
+    /// How many peers are there at once at most, 2 to 1,000. Others wait until one goes.
+    pub peers: u32,
+    /// After how many seconds without a byte a peer is dismissed, 1 to 86,400.
+    pub idle: u32,
 }
 
 /// What the arguments say of a log that is appended to or read.
@@ -79,6 +103,36 @@ pub struct TailWords {
     pub style: Style,
 }
 
+/// What the arguments say of a log of which the register is asked.
+#[derive(Drop)]
+pub struct RegisterWords {
+    /// The configuration.
+    pub config: Config,
+    /// The log's number, which is among the configuration's logs.
+    pub log: LogId,
+    /// The file of the register of epochs.
+    pub register: FileName,
+    /// The first epoch that is told, 1 to 4,294,967,295.
+    pub from: u32,
+}
+
+/// What the arguments say of a log of which the register and the nodes are asked.
+#[derive(Drop)]
+pub struct StatusWords {
+    /// The configuration.
+    pub config: Config,
+    /// The log's number, which is among the configuration's logs.
+    pub log: LogId,
+    /// The file of the register of epochs.
+    pub register: FileName,
+    /// Where the configuration's nodes are.
+    pub reach: Reach,
+    /// How many milliseconds a dial, a read or a write takes at most, 100 to 60,000.
+    pub limit: u32,
+    /// How many of the last epochs are told, 1 to 1,000,000.
+    pub epochs: u32,
+}
+
 /// The things of the environment that a command needs.
 #[derive(Drop)]
 pub struct Places {
@@ -92,4 +146,6 @@ pub struct Places {
     pub reach: Reach,
     /// How many milliseconds a dial, a read or a write takes at most.
     pub limit: u32,
+    /// The node's peers, where it serves several at once.
+    pub company: Option<Company>,
 }

@@ -2,7 +2,7 @@
 ghost use Rattle.std.specs.Prelude.{◌≡◌, IfOk, MatchResult, false, map, string_bytes};
 ghost use Rattle.clap.specs.Words.{app_of, rule_of, subcommand_rows_of};
 ghost use Rattle.clap.specs.Simple.{App, Shape, with_subcommand};
-ghost use Rattle.ld_words.specs.Grammar.{option_rule, choice_rule, flag_rule, exercise_shape, files_shape, node_shape, log_shape, append_shape, tail_shape, ld_app, found, IsCommand};
+ghost use Rattle.ld_words.specs.Grammar.{option_rule, choice_rule, flag_rule, exercise_shape, files_shape, node_shape, log_shape, append_shape, tail_shape, register_shape, status_shape, ld_app, found, IsCommand};
 ghost use Rattle.ld_words.specs.Meaning.{IsNoCommand};
 ghost use Rattle.ld_words.specs.Refuses.{Refuses};
 
@@ -62,7 +62,9 @@ fn node_command<'a>(alloc: Global) -> Result<Command<'a>, AllocError>
     files_command(alloc)?
         .arg(choice(alloc, "port"))?
         .arg(choice(alloc, "listen"))?
-        .arg(option(alloc, "turns"))?
+        .arg(choice(alloc, "turns"))?
+        .arg(choice(alloc, "peers"))?
+        .arg(choice(alloc, "idle"))?
         .arg(flag(alloc, "format"))
 }
 
@@ -96,6 +98,31 @@ fn tail_command<'a>(alloc: Global) -> Result<Command<'a>, AllocError>
         .arg(option(alloc, "until"))?
         .arg(flag(alloc, "one-copy"))?
         .arg(flag(alloc, "messages"))
+}
+
+/// The command that tells what the register says of a log.
+fn register_command<'a>(alloc: Global) -> Result<Command<'a>, AllocError>
+    ensures { IfOk result (IsCommand register_shape) }
+{
+    Command::new(alloc, "register")
+        .arg(option(alloc, "config"))?
+        .arg(option(alloc, "log"))?
+        .arg(option(alloc, "register"))?
+        .arg(choice(alloc, "from"))
+}
+
+/// The command that tells what the register and each node say of a log.
+fn status_command<'a>(alloc: Global) -> Result<Command<'a>, AllocError>
+    ensures { IfOk result (IsCommand status_shape) }
+{
+    Command::new(alloc, "status")
+        .arg(option(alloc, "config"))?
+        .arg(option(alloc, "log"))?
+        .arg(option(alloc, "register"))?
+        .arg(choice(alloc, "port"))?
+        .arg(choice(alloc, "at"))?
+        .arg(choice(alloc, "limit"))?
+        .arg(choice(alloc, "epochs"))
 }
 
 /// The commands with one more, where both could be made.
@@ -134,7 +161,9 @@ fn ld_command<'a>(alloc: Global) -> Result<Command<'a>, AllocError>
     let with_exercise = add(with_replay, exercise_command(alloc));
     let with_node = add(with_exercise, node_command(alloc));
     let with_append = add(with_node, append_command(alloc));
-    add(with_append, tail_command(alloc))
+    let with_tail = add(with_append, tail_command(alloc));
+    let with_register = add(with_tail, register_command(alloc));
+    add(with_register, status_command(alloc))
 }
 
 /// What clap finds in the arguments.

@@ -16,7 +16,10 @@ mod words;
 
 pub use address::{Address, Addresses, Listen, NodeAddress, Reach};
 pub use cause::config_cause;
-pub use command::{AppendWords, Command, LogWords, NodeWords, Places, TailWords};
+pub use command::{
+    AppendWords, Command, Company, CrowdWords, LogWords, NodeWords, Places, RegisterWords,
+    StatusWords, TailWords,
+};
 pub use file_name::FileName;
 pub use law::words_ask_for_one_command;
 pub use words::{places, read, reason};

@@ -26,7 +26,7 @@ use serde_json::{Error, Map, Value};
 use std::alloc::Global;
 
 /// Whether the argument is given.
-fn is_given(matches: &ArgMatches<'_>, name: &str) -> bool
+pub fn is_given(matches: &ArgMatches<'_>, name: &str) -> bool
     ensures { result ≡ is_some (first_of name.now (rows_of (found_of matches.now))) }
 {
     value(matches, name).is_some()

@@ -45,6 +45,11 @@ pub enum Refusal {
         one: &'static str,
         other: &'static str,
     },
+    /// An argument is given without another one, to which it belongs.
+    Without {
+        name: &'static str,
+        other: &'static str,
+    },
     /// The argument's value is no address.
     Address {
         name: &'static str,
@@ -95,6 +100,9 @@ impl Refusal {
             }
             Refusal::Both { one, other } => {
                 format!(in alloc; "--{one} and --{other} can't be given at once")
+            }
+            Refusal::Without { name, other } => {
+                format!(in alloc; "--{name} can't be given without --{other}")
             }
             Refusal::Address { name } => format!(in alloc;
                 "--{name} isn't HOST:PORT, with an IPv4 address, an IPv6 address in brackets or a name, and a port from 0 to 65535"

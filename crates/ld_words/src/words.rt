@@ -7,17 +7,20 @@ ghost use Rattle.ld_words.specs.declared.command.NodeWords.{NodeWords as Node};
 ghost use Rattle.ld_words.specs.declared.command.LogWords.{LogWords as Log};
 ghost use Rattle.ld_words.specs.declared.command.AppendWords.{AppendWords as Appending};
 ghost use Rattle.ld_words.specs.declared.command.TailWords.{TailWords as Tail};
+ghost use Rattle.ld_words.specs.declared.command.RegisterWords.{RegisterWords as Looking};
+ghost use Rattle.ld_words.specs.declared.command.StatusWords.{StatusWords as Asking};
 ghost use Rattle.ld_words.specs.declared.command.Command.{Command as Choice};
-ghost use Rattle.ld_words.specs.Meaning.{IsExercise, AreFiles, IsNodeWords, IsLogWords, IsAppendWords, IsRange, IsTailWords, is_true, style_of, IsNamed, IsFound, Asks, IsNoCommand, ArePlacesOf, ArePlacesOfLog, HasNoPlaces, AskForPlaces, AskForNoPlaces};
+ghost use Rattle.ld_words.specs.Meaning.{IsExercise, AreFiles, IsTurns, IsNodeWords, IsLogWords, IsAppendWords, IsRange, IsTailWords, IsRegisterWords, IsStatusWords, is_true, style_of, IsNamed, IsFound, Asks, IsNoCommand, ArePlacesOf, ArePlacesOfNode, ArePlacesOfLog, HasNoPlaces, AskForPlaces, AskForNoPlaces};
 ghost use Rattle.ld_words.specs.Refuses.{Refuses};
-ghost use Rattle.ld_words.specs.Bounds.{IsLogInBounds, IsTailInBounds, HasBounds};
+ghost use Rattle.ld_words.specs.Bounds.{IsLogInBounds, IsTailInBounds, IsRegisterInBounds, IsStatusInBounds, HasBounds};
 
 use crate::arguments::{config, file_name, flag, log_of, lsn, member, number, number_or, text};
 use crate::grammar::matches;
-use crate::reach::{listen, reach};
+use crate::reach::{is_given, listen, reach};
 use crate::refusal::Refusal;
 use crate::{
-    AppendWords, Command, FileName, Listen, LogWords, NodeWords, Places, Reach, TailWords,
+    AppendWords, Command, Company, CrowdWords, FileName, Listen, LogWords, NodeWords, Places,
+    Reach, RegisterWords, StatusWords, TailWords,
 };
 use clap::ArgMatches;
 use ld_ids::NoMemory;
@@ -39,6 +42,22 @@ fn files(alloc: Global, matches: &ArgMatches<'_>) -> Result<(FileName, FileName)
     Ok((store, register))
 }
 
+/// After how many turns a node ends.
+fn turns(matches: &ArgMatches<'_>) -> Result<u64, Refusal>
+    ensures { MatchResult result
+        (IsTurns (rows_of (found_of matches.now)))
+        (Refuses ((n : ℕ) → IsTurns (rows_of (found_of matches.now)) n → ⊥)) }
+{
+    match (is_given(matches, "turns"), is_given(matches, "peers")) {
+        (_, true) => number_or(matches, "turns", 1, 1_000_000_000, u64::MAX),
+        (true, false) => number(matches, "turns", 1, 1_000_000_000),
+        (false, false) => Err(Refusal::Neither {
+            one: "turns",
+            other: "peers",
+        }),
+    }
+}
+
 /// What the arguments say of a node.
 fn node_words(alloc: Global, matches: &ArgMatches<'_>) -> Result<NodeWords, Refusal>
     ensures says { MatchResult result
@@ -51,16 +70,44 @@ fn node_words(alloc: Global, matches: &ArgMatches<'_>) -> Result<NodeWords, Refu
     let id = member(id, &config)?;
     let (store, register) = files(alloc, matches)?;
     let listen = listen(alloc, matches)?;
-    let turns = number(matches, "turns", 1, 1_000_000_000)?;
+    let turns = turns(matches)?;
     Ok(NodeWords {
         id,
         config,
         store,
         register,
         listen,
-        turns: turns as u32,
+        turns,
         format: flag(matches, "format"),
     })
+}
+
+/// The command that serves a node: its peers one after the other, or several at once where the arguments say how many.
+fn node_command(alloc: Global, matches: &ArgMatches<'_>) -> Result<Command, Refusal>
+    ensures means { MatchResult result
+        (IsNamed (codes "node") (rows_of (found_of matches.now)))
+        (Refuses ((c : Choice) → IsNamed (codes "node") (rows_of (found_of matches.now)) c → ⊥)) }
+    ensures bounds { IfOk result HasBounds }
+{
+    let node = node_words(alloc, matches)?;
+    if !is_given(matches, "peers") {
+        if is_given(matches, "idle") {
+            return Err(Refusal::Without {
+                name: "idle",
+                other: "peers",
+            });
+        }
+        return Ok(Command::Node(node));
+    }
+    let peers = number(matches, "peers", 2, 1_000)?;
+    let idle = number_or(matches, "idle", 1, 86_400, 60)?;
+    Ok(Command::Crowd(CrowdWords {
+        node,
+        company: Company {
+            peers: peers as u32,
+            idle: idle as u32,
+        },
+    }))
 }
 
 /// What the arguments say of a log.
@@ -146,6 +193,50 @@ fn tail_words(alloc: Global, matches: &ArgMatches<'_>) -> Result<TailWords, Refu
     })
 }
 
+/// What the arguments say of a log of which the register is asked.
+fn register_words(alloc: Global, matches: &ArgMatches<'_>) -> Result<RegisterWords, Refusal>
+    ensures says { MatchResult result
+        (IsRegisterWords (rows_of (found_of matches.now)))
+        (Refuses ((r : Looking) → IsRegisterWords (rows_of (found_of matches.now)) r → ⊥)) }
+    ensures bounds { IfOk result IsRegisterInBounds }
+{
+    let log = number(matches, "log", 1, 65_535)?;
+    let config = config(alloc, text(matches, "config")?)?;
+    let log = log_of(log, &config)?;
+    let register = file_name(alloc, matches, "register")?;
+    let from = number_or(matches, "from", 1, 4_294_967_295, 1)?;
+    Ok(RegisterWords {
+        config,
+        log,
+        register,
+        from: from as u32,
+    })
+}
+
+/// What the arguments say of a log of which the register and the nodes are asked.
+fn status_words(alloc: Global, matches: &ArgMatches<'_>) -> Result<StatusWords, Refusal>
+    ensures says { MatchResult result
+        (IsStatusWords (rows_of (found_of matches.now)))
+        (Refuses ((s : Asking) → IsStatusWords (rows_of (found_of matches.now)) s → ⊥)) }
+    ensures bounds { IfOk result IsStatusInBounds }
+{
+    let log = number(matches, "log", 1, 65_535)?;
+    let config = config(alloc, text(matches, "config")?)?;
+    let log = log_of(log, &config)?;
+    let register = file_name(alloc, matches, "register")?;
+    let reach = reach(alloc, matches, &config.nodes)?;
+    let limit = number_or(matches, "limit", 100, 60_000, 10_000)?;
+    let epochs = number_or(matches, "epochs", 1, 1_000_000, 16)?;
+    Ok(StatusWords {
+        config,
+        log,
+        register,
+        reach,
+        limit: limit as u32,
+        epochs: epochs as u32,
+    })
+}
+
 /// The seed and the number of events that the arguments say.
 fn exercise(matches: &ArgMatches<'_>) -> Result<(u64, u32), Refusal>
     ensures { MatchResult result
@@ -172,13 +263,19 @@ fn named(alloc: Global, name: &str, matches: &ArgMatches<'_>) -> Result<Command,
         return Ok(Command::Exercise { seed, events });
     }
     if name == "node" {
-        return Ok(Command::Node(node_words(alloc, matches)?));
+        return node_command(alloc, matches);
     }
     if name == "append" {
         return Ok(Command::Append(append_words(alloc, matches)?));
     }
     if name == "tail" {
         return Ok(Command::Tail(tail_words(alloc, matches)?));
+    }
+    if name == "register" {
+        return Ok(Command::Register(register_words(alloc, matches)?));
+    }
+    if name == "status" {
+        return Ok(Command::Status(status_words(alloc, matches)?));
     }
     Err(Refusal::Unknown)
 }
@@ -228,15 +325,41 @@ fn places_of(command: Command) -> Option<Places>
 {
     match command {
         Command::Replay | Command::Exercise { .. } => None,
-        Command::Node(node) => Some(Places {
-            store: Some(node.store),
-            register: node.register,
-            listen: node.listen,
-            reach: Reach::Above(0),
-            limit: 10_000,
-        }),
+        Command::Node(node) => Some(node_places(node, None)),
+        Command::Crowd(words) => Some(node_places(words.node, Some(words.company))),
         Command::Append(words) => Some(log_places(words.of)),
         Command::Tail(words) => Some(log_places(words.of)),
+        Command::Register(words) => Some(Places {
+            store: None,
+            register: words.register,
+            listen: Listen::Port(0),
+            reach: Reach::Above(0),
+            limit: 10_000,
+            company: None,
+        }),
+        Command::Status(words) => Some(Places {
+            store: None,
+            register: words.register,
+            listen: Listen::Port(0),
+            reach: words.reach,
+            limit: words.limit,
+            company: None,
+        }),
+    }
+}
+
+/// The files of a node, where it listens, and its peers, where it serves several at once.
+fn node_places(node: NodeWords, company: Option<Company>) -> Places
+    ensures places { ArePlacesOfNode node result }
+    ensures company { result.company ≡ company }
+{
+    Places {
+        store: Some(node.store),
+        register: node.register,
+        listen: node.listen,
+        reach: Reach::Above(0),
+        limit: 10_000,
+        company,
     }
 }
 
@@ -250,6 +373,7 @@ fn log_places(words: LogWords) -> Places
         listen: Listen::Port(0),
         reach: words.reach,
         limit: words.limit,
+        company: None,
     }
 }
 

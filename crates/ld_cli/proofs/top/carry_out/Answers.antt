@@ -11,7 +11,7 @@ use Rattle.ld_append.specs.Acting.{MayCrowd}
 use Rattle.ld_append.specs.Appends.{HasNone as HasNoSequencers, IsAppended, IsEndOfAppend}
 use Rattle.ld_tail.specs.Tails.{HasNone as HasNoReaders, IsTailed, IsTailEnd}
 use Rattle.ld_cli.specs.Payloads.{payloads_in}
-use Rattle.ld_cli.specs.Clients.{Drives, EndsDrive}
+use Rattle.ld_cli.specs.Clients.{Drives, Looks, Calls, Dials, EndsDrive}
 use Rattle.ld_cli.proofs.Asked.{one_node, one_append, one_tail}
 use Rattle.ld_cli.proofs.Drives.{never_usage, disk_stays, append_read_rose, append_write_rose, tail_never_reads, tail_write_rose}
 use Rattle.ld_cli.proofs.top.carry_out.Goals as goal
@@ -51,13 +51,13 @@ returns-in-Append-clause-disk g c = disk_stays (g.N.Nodes.faults c.args.nodes.no
     _ _ c.appended.result c.appended.ensures.ends refl
 
 pub returns-in-Append-clause-register : goal.returns-in-Append-clause-register
-returns-in-Append-clause-register g c = λ no. absurd (no (subst Drives (sym c.in-Append.is) tt))
+returns-in-Append-clause-register g c = λ no. absurd (no (subst Looks (sym c.in-Append.is) tt))
 
 pub returns-in-Append-clause-link : goal.returns-in-Append-clause-link
-returns-in-Append-clause-link g c = λ no. absurd (no (subst Drives (sym c.in-Append.is) tt))
+returns-in-Append-clause-link g c = λ no. absurd (no (subst Calls (sym c.in-Append.is) tt))
 
 pub returns-in-Append-clause-undriven : goal.returns-in-Append-clause-undriven
-returns-in-Append-clause-undriven g c = λ no. absurd (no (subst Drives (sym c.in-Append.is) tt))
+returns-in-Append-clause-undriven g c = λ no. absurd (no (subst Dials (sym c.in-Append.is) tt))
 
 pub returns-in-Tail-clause-usage : goal.returns-in-Tail-clause-usage
 returns-in-Tail-clause-usage g c = never_usage (g.N.Nodes.faults c.args.nodes.now) (g.N.Nodes.faults c.tailed.new.nodes)
@@ -83,13 +83,13 @@ returns-in-Tail-clause-disk g c = disk_stays (g.N.Nodes.faults c.args.nodes.now)
     _ _ c.tailed.result c.tailed.ensures.ends refl
 
 pub returns-in-Tail-clause-register : goal.returns-in-Tail-clause-register
-returns-in-Tail-clause-register g c = λ no. absurd (no (subst Drives (sym c.in-Tail.is) tt))
+returns-in-Tail-clause-register g c = λ no. absurd (no (subst Looks (sym c.in-Tail.is) tt))
 
 pub returns-in-Tail-clause-link : goal.returns-in-Tail-clause-link
-returns-in-Tail-clause-link g c = λ no. absurd (no (subst Drives (sym c.in-Tail.is) tt))
+returns-in-Tail-clause-link g c = λ no. absurd (no (subst Calls (sym c.in-Tail.is) tt))
 
 pub returns-in-Tail-clause-undriven : goal.returns-in-Tail-clause-undriven
-returns-in-Tail-clause-undriven g c = λ no. absurd (no (subst Drives (sym c.in-Tail.is) tt))
+returns-in-Tail-clause-undriven g c = λ no. absurd (no (subst Dials (sym c.in-Tail.is) tt))
 
 pub returns-in-Tail-clause-tailed : goal.returns-in-Tail-clause-tailed
 returns-in-Tail-clause-tailed g c = λ t s far is told begins.

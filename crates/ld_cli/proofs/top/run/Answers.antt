@@ -3,7 +3,7 @@ use Rattle.std.specs.Prelude.{MatchOption}
 use Rattle.ld_io.specs.Input.{left_of}
 use Rattle.ld_words.specs.Meaning.{Asks, IsNoCommand}
 use Rattle.ld_words.specs.declared.command.Command.{Command}
-use Rattle.ld_words.specs.declared.command.Command.TheVariants.{Replay, Exercise, Node, Append, Tail}
+use Rattle.ld_words.specs.declared.command.Command.TheVariants.{Replay, Exercise, Node, Crowd, Append, Tail, Register, Status}
 use Rattle.ld_rounds.specs.Drives.{IsBroken}
 use Rattle.ld_cli.specs.Clients.{Drives}
 use Rattle.ld_cli.specs.Payloads.{payloads_in}
@@ -147,3 +147,27 @@ returns-in-Ok-Some-clause-register g c = λ none.
 pub returns-in-Ok-Some-clause-link : goal.returns-in-Ok-Some-clause-link
 returns-in-Ok-Some-clause-link g c = λ none.
     c.carry_out.ensures.link (none c.in-Ok-Some.command (subst (λ (o : Option Command). MatchOption o (IsNoCommand (map string_bytes c.args.words.now)) (Asks (map string_bytes c.args.words.now))) c.in-Ok-Some.field-0-is c.in-Ok-Some.ensures.asks))
+
+pub returns-in-Ok-Some-clause-crowded : goal.returns-in-Ok-Some-clause-crowded
+returns-in-Ok-Some-clause-crowded g c = λ w asks.
+    c.carry_out.ensures.crowded w (asked_one (map string_bytes c.args.words.now) c.in-Ok-Some.field-0 c.in-Ok-Some.command (Crowd w) c.in-Ok-Some.field-0-is c.in-Ok-Some.ensures.asks asks)
+
+pub returns-in-Ok-None-clause-crowded : goal.returns-in-Ok-None-clause-crowded
+returns-in-Ok-None-clause-crowded g c = λ w asks.
+    absurd (asked_none (map string_bytes c.args.words.now) c.in-Ok-None.field-0 (Crowd w) c.in-Ok-None.field-0-is c.in-Ok-None.ensures.asks asks)
+
+pub returns-in-Ok-Some-clause-registered : goal.returns-in-Ok-Some-clause-registered
+returns-in-Ok-Some-clause-registered g c = λ r asks.
+    c.carry_out.ensures.registered r (asked_one (map string_bytes c.args.words.now) c.in-Ok-Some.field-0 c.in-Ok-Some.command (Register r) c.in-Ok-Some.field-0-is c.in-Ok-Some.ensures.asks asks)
+
+pub returns-in-Ok-None-clause-registered : goal.returns-in-Ok-None-clause-registered
+returns-in-Ok-None-clause-registered g c = λ r asks.
+    absurd (asked_none (map string_bytes c.args.words.now) c.in-Ok-None.field-0 (Register r) c.in-Ok-None.field-0-is c.in-Ok-None.ensures.asks asks)
+
+pub returns-in-Ok-Some-clause-asked : goal.returns-in-Ok-Some-clause-asked
+returns-in-Ok-Some-clause-asked g c = λ s asks.
+    c.carry_out.ensures.asked s (asked_one (map string_bytes c.args.words.now) c.in-Ok-Some.field-0 c.in-Ok-Some.command (Status s) c.in-Ok-Some.field-0-is c.in-Ok-Some.ensures.asks asks)
+
+pub returns-in-Ok-None-clause-asked : goal.returns-in-Ok-None-clause-asked
+returns-in-Ok-None-clause-asked g c = λ s asks.
+    absurd (asked_none (map string_bytes c.args.words.now) c.in-Ok-None.field-0 (Status s) c.in-Ok-None.field-0-is c.in-Ok-None.ensures.asks asks)

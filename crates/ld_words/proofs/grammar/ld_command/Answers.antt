@@ -14,4 +14,6 @@ returns c =
     let s2 = c.add-with_exercise.ensures _ _ s1 c.exercise_command.ensures in
     let s3 = c.add-with_node.ensures _ _ s2 c.node_command.ensures in
     let s4 = c.add-with_append.ensures _ _ s3 c.append_command.ensures in
-    c.add.ensures _ _ s4 c.tail_command.ensures
+    let s5 = c.add-with_tail.ensures _ _ s4 c.tail_command.ensures in
+    let s6 = c.add-with_register.ensures _ _ s5 c.register_command.ensures in
+    c.add.ensures _ _ s6 c.status_command.ensures
