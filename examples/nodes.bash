@@ -30,7 +30,7 @@ start() {
   local node=$1
   shift
   "$program" node --id "$node" --config "$config" --store "$folder/store$node" --register "${register:-$folder/register}" \
-    --port $((port + node)) --turns 1000000000 "$@" 2> "$folder/node$node" &
+    --port $((port + node)) --peers 100 "$@" 2> "$folder/node$node" &
   process[$node]=$!
 }
 

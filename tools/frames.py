@@ -127,17 +127,17 @@ def free_ports(count):
 
 
 class Node:
-    """An `ld node` of its own, with its files in a folder."""
+    """An `ld node` of its own, with its files in a folder; with words beside the usual ones."""
 
     CONFIG = '{"nodes":[1],"logs":[{"id":1,"set":[1],"r":1}]}'
 
-    def __init__(self, program, folder, turns=1000000000):
-        self.program, self.folder, self.turns, self.process = program, folder, turns, None
+    def __init__(self, program, folder, turns=1000000000, words=()):
+        self.program, self.folder, self.turns, self.words, self.process = program, folder, turns, list(words), None
 
     def start(self, with_format=False):
         self.port = free_port()
         words = ["--id", "1", "--config", self.CONFIG, "--store", f"{self.folder}/store", "--register", f"{self.folder}/register"]
-        words += ["--port", str(self.port), "--turns", str(self.turns)] + ["--format"] * with_format
+        words += ["--port", str(self.port), "--turns", str(self.turns)] + ["--format"] * with_format + self.words
         self.process = subprocess.Popen([self.program, "node", *words])
         return Peer(self.port)
 

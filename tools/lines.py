@@ -143,7 +143,14 @@ NODES = [
     ("--id 1 --at {} --turns 9", ""),
     ("--id 1 --port 1 --turns 0", "--turns isn't a number"),
     ("--id 1 --port 1 --turns 1000000001", "--turns isn't a number"),
-    ("--id 1 --port 1", ""),
+    ("--id 1 --port 1", "one of --turns and --peers has to be given"),
+    ("--id 1 --port 1 --turns 9 --idle 9", "--idle can't be given without --peers"),
+    ("--id 1 --port 1 --peers 1", "--peers isn't a number from 2 to 1000"),
+    ("--id 1 --port 1 --peers 1001", "--peers isn't a number from 2 to 1000"),
+    ("--id 1 --port 1 --peers 2 --idle 0", "--idle isn't a number from 1 to 86400"),
+    ("--id 1 --port 1 --peers 2 --idle 86401", "--idle isn't a number from 1 to 86400"),
+    ("--id 1 --port 1 --peers 2 --turns 0", "--turns isn't a number from 1 to 1000000000"),
+    ("--id 1 --port 1 --peers", ""),
     ("--id 1 --port 1 --turns 9 more", ""),
     ("--id 1 --port 1 --turns 9 --help", ""),
     ("--id 1 --port 1 --turns 9 --format --format", ""),
@@ -231,6 +238,28 @@ TAILS = [
 ]
 
 
+# The same of `register` and of `status` over the logs 1 and 65535, behind configuration and register.
+REGISTERS = [
+    ("--log 0", "--log isn't a number"),
+    ("--log 9", "--log is 9, which isn't one of the configuration's logs"),
+    ("--log 1 --from 0", "--from isn't a number from 1 to 4294967295"),
+    ("--log 1 --from 4294967296", "--from isn't a number from 1 to 4294967295"),
+    ("--log 1 --from e1n1", "--from isn't a number"),
+    ("--log 1 --port 7000", ""),
+    ("--from 1", ""),
+]
+STATUSES = [
+    ("--log 1", "one of --port and --at has to be given"),
+    ("--log 9 --port 7000", "--log is 9, which isn't one of the configuration's logs"),
+    ("--log 1 --port 7000 --epochs 0", "--epochs isn't a number from 1 to 1000000"),
+    ("--log 1 --port 7000 --epochs 1000001", "--epochs isn't a number from 1 to 1000000"),
+    ("--log 1 --port 7000 --limit 99", "--limit isn't a number from 100 to 60000"),
+    ("--log 1 --port 7000 --at {}", "--port and --at can't be given at once"),
+    ("--log 1 --at {}", "--at is refused: node 1 of the configuration has no address"),
+    ("--log 1 --port 7000 --rounds 1", ""),
+]
+
+
 def refused():
     """Words that are refused, and a part of the reason."""
     for text, reason in CONFIGURATIONS:
@@ -247,6 +276,10 @@ def refused():
         yield ["append", "--config", NODE, "--register", "r", "--log", "1", "--rounds", "9", "--at", table], f"--at is refused: {reason}"
     for line, reason in FILES:
         yield ["node", "--config", NODE, "--id", "1", "--port", "1", "--turns", "9", *line.split()], reason
+    for line, reason in REGISTERS:
+        yield ["register", "--config", LOGS, "--register", "r", *line.split()], reason
+    for line, reason in STATUSES:
+        yield ["status", "--config", LOGS, "--register", "r", *line.split()], reason
     for line, reason in APPENDS:
         yield ["append", "--config", LOGS, "--register", "r", *line.split()], reason
     for line, reason in TAILS:
