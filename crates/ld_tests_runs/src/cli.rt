@@ -330,12 +330,16 @@ const CROWD: [&str; 13] = [
     "--format",
 ];
 
-/// A crowd of two peers: the first one says what isn't the beginning of a frame, and before it ends the second one asks, in two
-/// parts.
-fn two_peers(alloc: Global) -> Result<MemCrowd, Fail> {
+/// What two peers send: the first one what isn't the beginning of a frame, the second one an ask.
+fn two_peers(alloc: Global) -> Result<Vec<Vec<u8>>, Fail> {
     let mut peers = Vec::new(alloc);
     peers.push(Vec::from_slice(alloc, b"\x00\x00\x00\x01\xff")?)?;
     peers.push(Vec::from_slice(alloc, ASK)?)?;
+    Ok(peers)
+}
+
+/// Both come; the ask is there in two parts, and between them what the first one sends.
+fn their_steps(alloc: Global) -> Result<Vec<Step>, Fail> {
     let steps = [
         Step::Comes,
         Step::Comes,
@@ -344,12 +348,7 @@ fn two_peers(alloc: Global) -> Result<MemCrowd, Fail> {
         Step::Has(1, 11),
         Step::Has(1, 0),
     ];
-    Ok(MemCrowd::new(
-        alloc,
-        peers,
-        Vec::from_slice(alloc, &steps)?,
-        Vec::new(alloc),
-    )?)
+    Ok(Vec::from_slice(alloc, &steps)?)
 }
 
 /// How a node ends that serves these two at once, whether nothing was said to the first one, and whether the second one was
@@ -358,7 +357,9 @@ fn gathered(alloc: Global) -> Result<(Status, bool, bool), Fail> {
     let words = strings(alloc, &CROWD)?;
     let mut o = outside_with(alloc, no_peer(alloc)?)?;
     let mut nodes = Framed::new(alloc, no_peer(alloc)?);
-    let mut crowd = two_peers(alloc)?;
+    let peers = two_peers(alloc)?;
+    let steps = their_steps(alloc)?;
+    let mut crowd = MemCrowd::new(alloc, peers, steps, Vec::new(alloc))?;
     let status = run(
         alloc,
         &words,
