@@ -1,6 +1,7 @@
 // Nodes that a link reaches.
 ghost use Rattle.std.specs.Prelude.{◌≡◌, ◌≢◌, [], List, ℕ, Option, None, Some, Err, IfOk, IfSome};
 ghost use Rattle.ld_io.specs.Causes.{HasCause};
+ghost use Rattle.ld_link.specs.Calls.{after_dial};
 ghost use Rattle.ld_link.specs.Peers.{Reaches};
 ghost use Rattle.ld_msg.specs.Bounds.{IsMessage};
 ghost use Rattle.ld_msg.specs.declared.msg.Msg.{Msg as Message};
@@ -102,10 +103,11 @@ impl<L: Dial> Nodes for Framed<L> {
 
     ghost off = { λ f. f.held.fault };
 
-    /// Drops what is held of the node before.
+    /// Drops what is held of the node before, and dials the node of this number.
     fn dial(&mut self, node: NodeId) -> Result<(), Failed>
         ensures cause { HasCause (L.faults self.old.link) (L.faults self.new.link) result }
         ensures reached { IfSome (L.peers self.old.link) (λ old. Reaches old (L.peers self.new.link) result) }
+        ensures did { L.did self.new.link ≡ after_dial result node (L.did self.old.link) }
         ensures dropped { self.new.held ≡ record { bytes = []; fault = None } }
         ensures endings { self.new.endings ≡ self.old.endings }
         ensures off { self.new.held.fault ≡ None }
@@ -156,6 +158,16 @@ impl<L: Dial> Nodes for Framed<L> {
                 Err(fault_of(unread))
             }
         }
+    }
+
+    fn rest(&mut self, milliseconds: u32)
+        ensures faults { L.faults self.new.link ≡ L.faults self.old.link }
+        ensures peers { L.peers self.new.link ≡ L.peers self.old.link }
+        ensures did { L.did self.new.link ≡ L.did self.old.link }
+        ensures held { self.new.held ≡ self.old.held }
+        ensures endings { self.new.endings ≡ self.old.endings }
+    {
+        self.link.rest(milliseconds)
     }
 
     fn failures(&self) -> u64 {

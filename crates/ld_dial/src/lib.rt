@@ -65,6 +65,15 @@ pub trait Nodes {
         ensures ended { CountsEnding (endings self.old) (endings self.new) result }
         ensures off { KeepsFrame (off self.old) (off self.new) result };
 
+    /// Waits for so many milliseconds, none for 0, and keeps no connection meanwhile: before the next `send` or `receive` a
+    /// node has to be dialed. What stands at the nodes stays.
+    fn rest(&mut self, milliseconds: u32)
+        ensures rested { (c : Config) (far : Far) → tells self.old c far → tells self.new c far }
+        ensures silent { silent self.new ≡ silent self.old }
+        ensures faults { faults self.new ≡ faults self.old }
+        ensures endings { endings self.new ≡ endings self.old }
+        ensures off { off self.new ≡ off self.old };
+
     /// How often a call has failed, up to the greatest 64-bit number.
     fn failures(&self) -> u64
         ensures { result ≡ faults self.now };

@@ -152,6 +152,11 @@ impl Nodes for NodeLinks {
         Ok(Some(answer))
     }
 
+    /// Nobody waits for a node in memory.
+    fn rest(&mut self, _milliseconds: u32)
+        ensures same { self.new ≡ self.old }
+    {}
+
     /// How often a call has failed, up to the greatest 64-bit number.
     fn failures(&self) -> u64 {
         self.faults

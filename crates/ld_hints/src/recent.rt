@@ -2,6 +2,7 @@
 ghost use Rattle.std.specs.Prelude.{◌≡◌};
 
 use ld_io::{Failed, Source};
+use ld_ready::Ready;
 use std::alloc::{AllocError, Global};
 
 /// A source over another one that keeps the line in which its last read began, and what was read since. It gives what
@@ -96,5 +97,13 @@ impl<S: Source + Drop> Source for Recent<S> {
             }
         }
         Ok(count)
+    }
+}
+
+impl<S: Ready + Drop> Ready for Recent<S> {
+    ghost ready = { λ s. S.ready s.inner };
+
+    fn is_ready(&self) -> bool {
+        self.inner.is_ready()
     }
 }

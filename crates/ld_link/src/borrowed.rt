@@ -27,6 +27,10 @@ impl<L: Dial> Dial for &mut L {
         (**self).dial(node)
     }
 
+    fn rest(&mut self, milliseconds: u32) {
+        (**self).rest(milliseconds)
+    }
+
     fn failures(&self) -> u64 {
         (**self).failures()
     }

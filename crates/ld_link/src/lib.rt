@@ -62,6 +62,13 @@ pub trait Dial: Link {
         ensures peer { IfSome (Self.peers self.old) (λ old. Reaches old (Self.peers self.new) result) }
         ensures cause { HasCause (Self.faults self.old) (Self.faults self.new) result };
 
+    /// Waits for so many milliseconds, none for 0. A link over connections ends that of the present peer first, so that
+    /// nobody waits for it meanwhile. No byte passes, and before the next read or write a node has to be dialed.
+    fn rest(&mut self, milliseconds: u32)
+        ensures did { Self.did self.new ≡ Self.did self.old }
+        ensures peers { Self.peers self.new ≡ Self.peers self.old }
+        ensures faults { Self.faults self.new ≡ Self.faults self.old };
+
     /// How often a call has failed, up to the greatest 64-bit number.
     fn failures(&self) -> u64
         ensures { result ≡ Self.faults self.now };

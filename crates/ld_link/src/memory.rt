@@ -231,6 +231,11 @@ impl Dial for MemLink {
         Err(count_fault(&mut self.faults))
     }
 
+    /// Nobody waits for a peer in memory.
+    fn rest(&mut self, _milliseconds: u32)
+        ensures same { self.new ≡ self.old }
+    {}
+
     fn failures(&self) -> u64 {
         self.faults
     }

@@ -7,12 +7,17 @@ use ld_link::Link;
 use std::fmt::Write as _;
 use std::io::Write;
 use std::net::{Net, TcpListener, TcpStream};
+use std::time::Clock;
 
 /// A link that writes a line for a person once its address is bound, before it waits for the first peer: a text, and behind
 /// it the port, where it listens at a port of 127.0.0.1, or else the address. Where there is nowhere to write it, or that
 /// fails, it goes on.
 #[derive(Drop)]
-pub struct Announced<'a, R: Net<Listener = TcpListener, Stream = TcpStream>, W: Write + Drop> {
+pub struct Announced<
+    'a,
+    R: Net<Listener = TcpListener, Stream = TcpStream> + Clock,
+    W: Write + Drop,
+> {
     link: TcpLink<'a, R>,
     by_port: bool,
     out: Option<W>,
@@ -20,7 +25,11 @@ pub struct Announced<'a, R: Net<Listener = TcpListener, Stream = TcpStream>, W: 
     is_listening: bool,
 }
 
-impl<'a, R: Net<Listener = TcpListener, Stream = TcpStream>, W: Write + Drop> Announced<'a, R, W> {
+impl<'a, R: Net<Listener = TcpListener, Stream = TcpStream> + Clock, W: Write + Drop> Announced<
+    'a,
+    R,
+    W,
+> {
     /// A link that listens there, which isn't bound yet, and the line's text up to the port or the address. No call has
     /// failed yet.
     pub fn new(
@@ -72,7 +81,7 @@ impl<'a, R: Net<Listener = TcpListener, Stream = TcpStream>, W: Write + Drop> An
     }
 }
 
-impl<'a, R: Net<Listener = TcpListener, Stream = TcpStream>, W: Write + Drop> Link
+impl<'a, R: Net<Listener = TcpListener, Stream = TcpStream> + Clock, W: Write + Drop> Link
     for Announced<'a, R, W> {
     ghost use Rattle.std.specs.Prelude.{None};
 

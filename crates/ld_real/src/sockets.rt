@@ -22,6 +22,9 @@ const LISTENER: usize = usize::MAX;
 /// How many events one wait gives.
 const EVENTS: usize = 256;
 
+/// The error number of Linux for as many open files in the whole system as it allows.
+const SYSTEM_LIMIT: i32 = 23;
+
 /// How many bytes may wait to be written to a peer before no more is read of it.
 const MOST_WAITING: usize = 1 << 20;
 
@@ -139,7 +142,8 @@ impl<'a, R: Net + Clock> Sockets<'a, R> {
         self.may_knock && self.peers.len() < self.limit
     }
 
-    /// Lets in one who waits, under this number, where there is room.
+    /// Lets in one who waits, under this number, where there is room. Where the process has no file descriptor left for it, it
+    /// waits until a peer goes.
     fn let_in(&mut self, next: u64) -> io::Result<bool> {
         'knocks: for _ in 0..u64::MAX {
             if !self.may_let_in() {
@@ -152,6 +156,9 @@ impl<'a, R: Net + Clock> Sockets<'a, R> {
                 }
                 Err(error) if error.kind() == ErrorKind::WouldBlock => self.may_knock = false,
                 Err(error) if is_of_a_peer(error.kind()) => {}
+                Err(error) if is_out_of_files(&error) && !self.peers.is_empty() => {
+                    self.may_knock = false;
+                }
                 Err(error) => return Err(error),
             }
         }
@@ -398,6 +405,14 @@ fn is_of_a_peer(kind: ErrorKind) -> bool {
         kind,
         ErrorKind::ConnectionAborted | ErrorKind::ConnectionReset | ErrorKind::Interrupted
     )
+}
+
+/// The process, or the system, has as many files open as it may.
+fn is_out_of_files(error: &io::Error) -> bool {
+    match error.raw_os_error() {
+        Some(code) => code == libc::EMFILE || code == SYSTEM_LIMIT,
+        None => false,
+    }
 }
 
 /// The peer isn't silent.

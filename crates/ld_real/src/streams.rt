@@ -8,10 +8,14 @@ ghost use Rattle.ld_past.specs.Events.{bytes_of};
 
 use ld_io::{Failed, Sink, Source};
 use ld_past::Past;
+use ld_ready::Ready;
 use std::io::{Read, Write};
 
 /// How many bytes a source gives at most.
 const MOST: u64 = 0x7fff_ffff_ffff_ffff;
+
+/// The file descriptor of the standard input.
+const STANDARD_INPUT: i32 = 0;
 
 /// A source over a reader. After 2^63 - 1 bytes it fails. Once the reader gave nothing it isn't asked again.
 #[derive(Drop)]
@@ -19,6 +23,7 @@ pub struct StdSource<R: Read + Drop> {
     inner: R,
     given: u64,
     has_ended: bool,
+    descriptor: Option<i32>,
     faults: u64,
     past: Past,
     ghost counted: { given ≡ length (bytes_of past.events) },
@@ -26,8 +31,29 @@ pub struct StdSource<R: Read + Drop> {
 }
 
 impl<R: Read + Drop> StdSource<R> {
-    /// A source over this reader. It has given nothing yet, and no read has failed.
+    /// A source over this reader. It has given nothing yet, and no read has failed. It doesn't know whether a read would
+    /// wait.
     pub fn new(inner: R) -> StdSource<R>
+        ensures over { result.inner ≡ inner }
+        ensures given { result.given ≡ 0 }
+        ensures ended { result.has_ended ≡ false }
+        ensures faults { result.faults ≡ 0 }
+    {
+        StdSource::over(inner, None)
+    }
+
+    /// A source over a reader that gives the bytes of the standard input and holds none of them itself. It asks the system
+    /// whether a read would wait.
+    pub fn standard(inner: R) -> StdSource<R>
+        ensures over { result.inner ≡ inner }
+        ensures given { result.given ≡ 0 }
+        ensures ended { result.has_ended ≡ false }
+        ensures faults { result.faults ≡ 0 }
+    {
+        StdSource::over(inner, Some(STANDARD_INPUT))
+    }
+
+    fn over(inner: R, descriptor: Option<i32>) -> StdSource<R>
         ensures over { result.inner ≡ inner }
         ensures given { result.given ≡ 0 }
         ensures ended { result.has_ended ≡ false }
@@ -37,6 +63,7 @@ impl<R: Read + Drop> StdSource<R> {
             inner,
             given: 0,
             has_ended: false,
+            descriptor,
             faults: 0,
             past: Past::new(),
         }
@@ -89,6 +116,28 @@ impl<R: Read + Drop> Source for StdSource<R> {
         }
         self.faults = self.faults.saturating_add(1);
         Err(Failed)
+    }
+}
+
+/// Whether a read of the descriptor gives bytes, the end or a fault at once. Where the system can't say, it is taken to be so.
+fn is_readable(descriptor: i32) -> bool {
+    let mut asked = [libc::types::pollfd {
+        fd: descriptor,
+        events: libc::net::POLLIN,
+        revents: 0,
+    }];
+    libc::net::poll(&mut asked, 0) != 0
+}
+
+impl<R: Read + Drop> Ready for StdSource<R> {
+    ghost ready = { λ _. None };
+
+    /// After the end, and where it doesn't know, a read doesn't wait.
+    fn is_ready(&self) -> bool {
+        match self.descriptor {
+            Some(descriptor) => self.has_ended || is_readable(descriptor),
+            None => true,
+        }
     }
 }
 

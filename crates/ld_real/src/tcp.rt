@@ -12,10 +12,10 @@ use crate::{Dialing, Listening, Tried};
 use ld_io::Failed;
 use ld_link::{Dial, Link};
 use ld_past::Past;
-use std::io;
 use std::io::{ErrorKind, Read, Write};
 use std::net::{Ipv4Addr, Net, SocketAddr, TcpListener, TcpStream};
-use std::time::Duration;
+use std::time::{Clock, Duration};
+use std::{io, thread};
 
 /// How many milliseconds a call of a dialed connection takes at most, where nothing else is said.
 const LIMIT: u32 = 10_000;
@@ -43,7 +43,7 @@ pub(crate) enum Peer {
 /// connection that breaks, or that the node keeps waiting for the link's limit, 10 seconds where nothing else is said.
 /// After it each read and write fails, until the next peer is present. A dialed node that ends is no fault.
 #[derive(Drop)]
-pub struct TcpLink<'a, R: Net<Listener = TcpListener, Stream = TcpStream>> {
+pub struct TcpLink<'a, R: Net<Listener = TcpListener, Stream = TcpStream> + Clock> {
     rt: &'a R,
     listening: Listening<'a>,
     dialing: Dialing<'a>,
@@ -55,7 +55,7 @@ pub struct TcpLink<'a, R: Net<Listener = TcpListener, Stream = TcpStream>> {
     tried: Tried,
 }
 
-impl<'a, R: Net<Listener = TcpListener, Stream = TcpStream>> TcpLink<'a, R> {
+impl<'a, R: Net<Listener = TcpListener, Stream = TcpStream> + Clock> TcpLink<'a, R> {
     /// A link at this port of 127.0.0.1, which isn't bound yet, that dials nodes at the ports above it. No peer is there,
     /// and no call has failed yet.
     pub fn new(rt: &'a R, port: u16) -> TcpLink<'a, R>
@@ -314,7 +314,7 @@ fn write_to(stream: &mut TcpStream, piece: &[u8]) -> Option<usize>
     None
 }
 
-impl<'a, R: Net<Listener = TcpListener, Stream = TcpStream>> Link for TcpLink<'a, R> {
+impl<'a, R: Net<Listener = TcpListener, Stream = TcpStream> + Clock> Link for TcpLink<'a, R> {
     ghost peers = { λ _. None };
 
     ghost did = { λ l. l.did.events };
@@ -393,7 +393,7 @@ impl<'a, R: Net<Listener = TcpListener, Stream = TcpStream>> Link for TcpLink<'a
     }
 }
 
-impl<'a, R: Net<Listener = TcpListener, Stream = TcpStream>> Dial for TcpLink<'a, R> {
+impl<'a, R: Net<Listener = TcpListener, Stream = TcpStream> + Clock> Dial for TcpLink<'a, R> {
     /// Closes the connection of the peer that was there, and dials the node where the link has it. A name is looked up by
     /// the system's resolver at each dial, whose time isn't bounded; its addresses are tried in the order in which they come.
     /// The address where the link listens isn't bound by it. It fails where nobody takes the call within the link's limit,
@@ -411,6 +411,21 @@ impl<'a, R: Net<Listener = TcpListener, Stream = TcpStream>> Dial for TcpLink<'a
         self.present = Peer::Dialed(Some(stream));
         self.did.note(&[1, u64::from(node)], &[]);
         Ok(())
+    }
+
+    /// Closes the connection of a peer that was dialed, and sleeps. One that came stays.
+    fn rest(&mut self, milliseconds: u32)
+        ensures did { self.new.did.events ≡ self.old.did.events }
+        ensures faults { self.new.faults ≡ self.old.faults }
+        ensures closed { is_dialed self.old.present ≡ true → is_broken self.new.present ≡ true }
+        ensures stays { is_dialed self.old.present ≡ false → self.new.present ≡ self.old.present }
+    {
+        if let Peer::Dialed(stream) = &mut self.present {
+            *stream = None;
+        }
+        if milliseconds > 0 {
+            thread::sleep(self.rt, Duration::from_millis(u64::from(milliseconds)));
+        }
     }
 
     fn failures(&self) -> u64 {
