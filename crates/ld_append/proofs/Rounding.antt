@@ -1,5 +1,5 @@
 -- A round ended since the register refused.
-use Rattle.std.proofs.Common.{◌≡◌, ◌⊎◌, arith, inl, inr, ⊎_elim, ℕ, Bool, List, Option, Some, None, Ok, Err, IfErr, refl, sym, subst}
+use Rattle.std.proofs.Common.{◌≡◌, ◌⊎◌, arith, inl, inr, ⊎_elim, ℕ, Bool, List, Option, Some, None, Ok, Err, IfErr, refl, sym, subst, ap}
 use Rattle.std.specs.declared.result.Result.{Result}
 use Rattle.ld_config.specs.declared.config.Config.{Config}
 use Rattle.ld_config.specs.Bounds.{IsInBounds}
@@ -16,7 +16,7 @@ use Rattle.ld_rounds.specs.declared.ended.Ended.TheVariants as ends
 use Rattle.ld_rounds.specs.Input.{Input}
 use Rattle.ld_rounds.specs.Rounds.{IsOne, FeedsUntil, AppendsUntil}
 use Rattle.ld_wire.specs.declared.fault.WireFault.{WireFault}
-use Rattle.ld_rounds.specs.Endings.{IsLater, SaysWhy, IsOffAs}
+use Rattle.ld_rounds.specs.Endings.{IsLater, SaysWhy, IsOffAs, EndsOff}
 use Rattle.ld_rounds.specs.Feeding.{IsAppendEnding}
 use Rattle.ld_rounds.specs.Refusals.{IsRefusal}
 use Rattle.ld_rounds.proofs.Feeding.{append_since, same_here}
@@ -93,6 +93,10 @@ round_refused damaged whole before now kept r h = by_round (λ x. IfErr x (IsRef
 
 pub round_off : (off : Option WireFault) (kept : Option Ended) (r : Result Bool Ended) → IfErr r (IsOffAs off) → IfErr (round_end kept r) (IsOffAs off)
 round_off off kept r h = by_round (λ x. IfErr x (IsOffAs off)) kept r (λ o. h) (λ f e. by_kept (IsOffAs off) kept tt (λ q x. tt))
+
+pub round_ends : (off : Option WireFault) (kept : Option Ended) (r : Result Bool Ended) → EndsOff off r → EndsOff off (round_end kept r)
+round_ends None kept r h = tt
+round_ends (Some fault) kept r h = ap (round_end kept) h
 
 module _ (crowded : Type 0) (damaged : ℕ → Type 0) (i : Option Input) (p q k m : ℕ) (a c : Option (List ℕ)) where
   says_as : (f r : Refusal) → SaysWhy a c (ends.Register f) → SaysWhy a c (ends.Register r)

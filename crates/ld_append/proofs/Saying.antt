@@ -1,5 +1,5 @@
 -- The lines of a call say how the drive ends by it.
-use Rattle.std.proofs.Common.{◌≡◌, ◌≢◌, ℕ, List, [], ◌∷◌, ◌++◌, Option, Some, None, Ok, Err, Bool, refl, ap, sym, ◌∙◌, subst, arith, is_some, IfSome}
+use Rattle.std.proofs.Common.{◌≡◌, ◌≢◌, ℕ, List, [], ◌∷◌, ◌++◌, Option, Some, None, Ok, Err, Bool, refl, ap, sym, ◌∙◌, subst, arith, is_some, IfSome, true, false, if◌then◌else◌}
 use Rattle.std.specs.List.{Contains}
 use Rattle.std.specs.declared.result.Result.{Result}
 use Rattle.ld_transcript.specs.declared.line.Line.{Line}
@@ -20,8 +20,8 @@ use Rattle.ld_rounds.specs.declared.ended.Refusal.TheVariants as refusals
 use Rattle.ld_rounds.specs.declared.ended.Ended.{Ended}
 use Rattle.ld_rounds.specs.declared.ended.Ended.TheVariants as ends
 use Rattle.ld_rounds.specs.Rounds.{tells_full}
-use Rattle.ld_rounds.specs.Ends.{IsSaid}
-use Rattle.ld_append.specs.Refusing.{report_end, register_end, fault_end, end_by, is_window, lines_by, start_lines, IsTold, IsStartTold}
+use Rattle.ld_rounds.specs.Ends.{IsSaid, tells_by, is_final}
+use Rattle.ld_append.specs.Refusing.{report_end, register_end, fault_end, end_by, going, is_window, lines_by, start_lines, IsTold, IsStartTold}
 
 first_there : (l : Line) (ls : List Line) → Contains (l ∷ ls) l
 first_there l ls = (0, omega arith, refl)
@@ -149,3 +149,82 @@ damaged_by faults.WindowFull place e = absurd cc
 damaged_by (faults.PastReleased released) place e = absurd cc
 damaged_by (faults.Register f) place e = ap (λ (x : RegisterFault). faults.Register x) (damaged_register f place e)
 damaged_by faults.NoMemory place e = absurd cc
+
+-- ---- what ends a drive ----
+
+first_final : (b x y : Bool) → (x ≡ false → y ≡ false) → (if b then true else x) ≡ false → (if b then true else y) ≡ false
+first_final true x y k f = f
+first_final false x y k f = k f
+
+final_append : (ls ms : List Line) → tells_by is_final ls ≡ false → tells_by is_final ms ≡ false → tells_by is_final (ls ++ ms) ≡ false
+final_append [] ms f h = h
+final_append (l ∷ ls) ms f h = first_final (is_final l) (tells_by is_final ls) (tells_by is_final (ls ++ ms)) (λ k. final_append ls ms k h) f
+
+final_numbered : (f : ℕ → Line) (ns : List ℕ) → ((n : ℕ) → is_final (f n) ≡ false) → tells_by is_final (numbered_lines f ns) ≡ false
+final_numbered f [] h = refl
+final_numbered f (n ∷ ns) h = ap (λ (b : Bool). if b then true else tells_by is_final (numbered_lines f ns)) (h n) ∙ final_numbered f ns h
+
+final_when : (b : Bool) (l : Line) → is_final l ≡ false → tells_by is_final (when b l) ≡ false
+final_when true l h = ap (λ (x : Bool). if x then true else false) h
+final_when false l h = refl
+
+final_report : (name : List ℕ) (p : Option ℕ) (f : Option CloseFault) (rest : List Line) → tells_by is_final rest ≡ false → going (report_end p f) ≡ None
+    → tells_by is_final (numbered_lines (lines.RefusedPreempted name) (listed p) ++ (when (is_some f) (lines.RefusedRegister name) ++ rest)) ≡ false
+final_report name (Some by) f rest r h = absurd cc
+final_report name None f rest r h = final_append (when (is_some f) (lines.RefusedRegister name)) rest (final_when (is_some f) (lines.RefusedRegister name) refl) r
+
+final_register : (name : List ℕ) (f : RegisterFault) → going (register_end f) ≡ None → tells_by is_final (lines_by name (Err (faults.Register f))) ≡ false
+final_register name registers.Failed h = refl
+final_register name (registers.Damaged place) h = refl
+final_register name registers.LogLimit h = refl
+final_register name (registers.Behind lce next) h = refl
+final_register name (registers.Overtaken kept) h = refl
+final_register name registers.EpochLimit h = absurd cc
+final_register name registers.GenLimit h = refl
+final_register name registers.SwapLimit h = refl
+final_register name registers.Full h = refl
+final_register name registers.NoMemory h = refl
+
+final_fault : (name : List ℕ) (f : SequencerFault) → going (fault_end f) ≡ None → tells_by is_final (lines_by name (Err f)) ≡ false
+final_fault name (faults.PayloadTooLong n) h = refl
+final_fault name (faults.Preempted by) h = absurd cc
+final_fault name faults.EpochFull h = absurd cc
+final_fault name faults.WindowFull h = refl
+final_fault name (faults.PastReleased released) h = refl
+final_fault name (faults.Register f) h = final_register name f h
+final_fault name faults.NoMemory h = refl
+
+final_by : (name : List ℕ) (answer : Result Report SequencerFault) → going (end_by answer) ≡ None → tells_by is_final (lines_by name answer) ≡ false
+final_by name (Ok report) h = final_report name report.preempted report.register (numbered_lines (lines.Acked name) (listed report.acked) ++ (numbered_lines (lines.Clean name) (listed report.closed) ++ numbered_lines (lines.Released name) (listed report.released)))
+    (final_append (numbered_lines (lines.Acked name) (listed report.acked)) (numbered_lines (lines.Clean name) (listed report.closed) ++ numbered_lines (lines.Released name) (listed report.released)) (final_numbered (lines.Acked name) (listed report.acked) (λ n. refl))
+    (final_append (numbered_lines (lines.Clean name) (listed report.closed)) (numbered_lines (lines.Released name) (listed report.released)) (final_numbered (lines.Clean name) (listed report.closed) (λ n. refl)) (final_numbered (lines.Released name) (listed report.released) (λ n. refl)))) h
+final_by name (Err f) h = final_fault name f h
+
+-- where it goes on no line ends it
+pub final_going : (name : List ℕ) (answer : Result Report SequencerFault) (end : Option Ended) (ls : List Line) → end ≡ going (end_by answer) → ls ≡ lines_by name answer → end ≡ None → tells_by is_final ls ≡ false
+final_going name answer end ls e l n = ap (tells_by is_final) l ∙ final_by name answer (sym e ∙ n)
+
+pub final_is : (name : List ℕ) (answer : Result Report SequencerFault) (end : Option Ended) (ls : List Line) → end ≡ end_by answer → ls ≡ lines_by name answer → end ≡ None → tells_by is_final ls ≡ false
+final_is name answer end ls e l n = ap (tells_by is_final) l ∙ final_by name answer (ap going (sym e ∙ n))
+
+-- the same of an activation
+final_start : (name : List ℕ) (f : SequencerFault) → fault_end f ≡ None → tells_by is_final (start_lines name f) ≡ false
+final_start name (faults.PayloadTooLong n) h = refl
+final_start name (faults.Preempted by) h = absurd cc
+final_start name faults.EpochFull h = absurd cc
+final_start name faults.WindowFull h = refl
+final_start name (faults.PastReleased released) h = refl
+final_start name (faults.Register registers.Failed) h = refl
+final_start name (faults.Register (registers.Damaged place)) h = refl
+final_start name (faults.Register registers.LogLimit) h = refl
+final_start name (faults.Register (registers.Behind lce next)) h = refl
+final_start name (faults.Register (registers.Overtaken kept)) h = refl
+final_start name (faults.Register registers.EpochLimit) h = absurd cc
+final_start name (faults.Register registers.GenLimit) h = refl
+final_start name (faults.Register registers.SwapLimit) h = refl
+final_start name (faults.Register registers.Full) h = refl
+final_start name (faults.Register registers.NoMemory) h = refl
+final_start name faults.NoMemory h = refl
+
+pub final_started : (name : List ℕ) (f : SequencerFault) (end : Option Ended) (ls : List Line) → end ≡ fault_end f → ls ≡ start_lines name f → end ≡ None → tells_by is_final ls ≡ false
+final_started name f end ls e l n = ap (tells_by is_final) l ∙ final_start name f (sym e ∙ n)

@@ -9,7 +9,7 @@ ghost use Rattle.ld_machine.specs.Step.{happens};
 ghost use Rattle.ld_bounds.specs.Sound.{IsSound};
 ghost use Rattle.ld_rounds.specs.Acts.{IsActed};
 ghost use Rattle.ld_node_bounds.specs.Messages.{AreMessages};
-ghost use Rattle.ld_rounds.specs.Ends.{IsSaid};
+ghost use Rattle.ld_rounds.specs.Ends.{IsSaid, is_final, tells_by};
 ghost use Rattle.ld_rounds.specs.Rounds.{tells_full};
 ghost use Rattle.ld_append.specs.Acting.{Serves, IsTo, is_to, IsSpecOf, IsUnset, settled_in, MayCrowd, Leaves, IsSince, IsOfLog, HasBegun, HasKept, HoldsSome, LacksRoom};
 ghost use Rattle.ld_append.specs.Refusing.{fault_end, start_lines, going, IsTold, IsStartTold};
@@ -167,6 +167,7 @@ impl<G: Register> Acting<G> {
             → IsActed (Serves self.new.name self.new.sequencer (G.tells self.new.register) config.now) s heard.lines.items heard.sends (happens config.now s (Activate self.old.name spec.now.log))) }
         ensures messages { IfOk result (λ heard. AreMessages heard.sends) }
         ensures told { IfOk result (λ heard. IfSome heard.end (IsStartTold heard.lines.items)) }
+        ensures ends { IfOk result (λ heard. heard.end ≡ None → tells_by is_final heard.lines.items ≡ false) }
         ensures leaves { Leaves spec.now.log (G.told self.old.register) (G.told self.new.register) (G.may_hold self.old.register) (G.may_hold self.new.register) }
         ensures itself { G.identity self.new.register ≡ G.identity self.old.register }
         ensures active { self.old.sequencer ≡ None → IsOfLog spec.now.log self.new.sequencer }
@@ -214,6 +215,7 @@ impl<G: Register> Acting<G> {
         ensures kept { HasKept self.old.end self.new.end (G.holds self.old.register) (G.holds self.new.register) (G.faults self.old.register) (G.faults self.new.register) }
         ensures full { IfOk result (λ appended. appended.is_full ≡ tells_full appended.heard.lines.items) }
         ensures said { IfOk result (λ appended. IfSome appended.heard.end (IsSaid appended.heard.lines.items)) }
+        ensures ends { IfOk result (λ appended. appended.heard.end ≡ None → tells_by is_final appended.heard.lines.items ≡ false) }
     {
         let Some(sequencer) = &mut self.sequencer else {
             return Ok(Appended {
@@ -255,6 +257,7 @@ impl<G: Register> Acting<G> {
         ensures kept { HasKept self.old.end self.new.end (G.holds self.old.register) (G.holds self.new.register) (G.faults self.old.register) (G.faults self.new.register) }
         ensures messages { IfOk result (λ heard. AreMessages heard.sends) }
         ensures said { IfOk result (λ heard. IfSome heard.end (IsSaid heard.lines.items)) }
+        ensures ends { IfOk result (λ heard. heard.end ≡ None → tells_by is_final heard.lines.items ≡ false) }
     {
         if self.end.is_some() {
             return Err(NoMemory);
@@ -283,6 +286,7 @@ impl<G: Register> Acting<G> {
         ensures register { self.new.register ≡ self.old.register }
         ensures shut { self.new.is_shut ≡ true → (self.old.is_shut ≡ true) ⊎ (heard.end ≡ Some Ended.LogLimit) }
         ensures end { self.new.end ≡ going heard.end }
+        ensures ends { result.end ≡ going heard.end }
         ensures lines { result.lines.items ≡ heard.lines.items }
         ensures sends { result.sends ≡ heard.sends }
         ensures said { IfSome result.end (IsSaid result.lines.items) }
@@ -322,6 +326,7 @@ impl<G: Register> Acting<G> {
 
 impl<G: Register> Actor for Acting<G> {
     ghost use Rattle.std.proofs.Common.{refl, ◌∙◌};
+    ghost use Rattle.ld_rounds.specs.Ends.{is_final};
     ghost use Rattle.ld_append.specs.Acting.{is_here, goes_on, takes, kept_here, kept_on};
 
     ghost stands = { λ a c s. Serves a.name a.sequencer (G.tells a.register) c s };
@@ -337,6 +342,8 @@ impl<G: Register> Actor for Acting<G> {
     ghost since_on = { λ a b c p q. (goes_on a.sequencer b.sequencer c.sequencer (G.told a.register) (G.told b.register) (G.told c.register) (G.may_hold a.register) (G.may_hold b.register) (G.may_hold c.register) a.is_shut b.is_shut c.is_shut p.0 q.0, q.1 ∙ p.1, kept_on a.end b.end c.end (G.holds a.register) (G.holds b.register) (G.holds c.register) (G.faults a.register) (G.faults b.register) (G.faults c.register) p.2 q.2) };
 
     ghost hears = { λ a m. IsTo a.sequencer m };
+
+    ghost finals = { is_final };
 
     fn is_for(&self, message: &Msg) -> bool {
         match &self.sequencer {

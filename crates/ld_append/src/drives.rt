@@ -6,7 +6,7 @@ ghost use Rattle.ld_machine.specs.State.{State};
 ghost use Rattle.ld_wire.specs.declared.fault.WireFault.{WireFault as FrameFault};
 ghost use Rattle.ld_dial.specs.Far.{Far};
 ghost use Rattle.ld_rounds.specs.Drives.{Holds, GoesOn, IsBroken};
-ghost use Rattle.ld_rounds.specs.Endings.{IsLater, IsOffAs};
+ghost use Rattle.ld_rounds.specs.Endings.{IsLater, IsOffAs, EndsOff, IsEndedOff};
 ghost use Rattle.ld_register.specs.Bounds.{IsSpec};
 ghost use Rattle.ld_append.specs.Acting.{Serves, IsSpecOf, IsUnset, MayCrowd, Leaves, IsOfLog, HasBegun, HoldsSome, LacksRoom};
 ghost use Rattle.ld_rounds.specs.Reaching.{Begins};
@@ -73,6 +73,7 @@ fn drive<G: Register, N: Nodes, P: Payloads, O: Sink>(
     ensures itself { P.identity input.new ≡ P.identity input.old }
     ensures cause { IfErr result (IsDriveEnding (G.told acting.old.register → MayCrowd (G.may_hold acting.old.register) spec.now.log) (λ place. G.told acting.old.register → G.damaged acting.old.register place) (P.coming input.old) (P.faults input.old) (P.faults input.new) (O.faults out.old) (O.faults out.new) (Some (O.written out.old)) (Some (O.written out.new))) }
     ensures off { IfErr result (IsOffAs (N.off nodes.new)) }
+    ensures ended { N.off nodes.old ≡ None → EndsOff (N.off nodes.new) result }
     ensures refused { acting.old.end ≡ None → IfErr result (IsRefused (λ place. G.told acting.old.register → G.damaged acting.old.register place) (G.told acting.old.register → HoldsSome (G.holds acting.old.register) × LacksRoom (G.holds acting.new.register)) (G.faults acting.old.register) (G.faults acting.new.register)) }
 {
     let Ok(mut queues) = Queues::new(alloc) else {
@@ -130,8 +131,9 @@ pub fn append<G: Register, N: Nodes, P: Payloads, O: Sink>(
     ensures leaves { Leaves spec.now.log (G.told register) (G.told result.1) (G.may_hold register) (G.may_hold result.1) }
     ensures itself { P.identity input.new ≡ P.identity input.old }
     ensures cause { IsEndOfAppend (G.told register → MayCrowd (G.may_hold register) spec.now.log) (λ place. G.told register → G.damaged register place) (P.coming input.old) (P.faults input.old) (P.faults input.new) (O.faults out.old) (O.faults out.new) (Some (O.written out.old)) (Some (O.written out.new)) result.0 }
-    // It ends with `BadFrame` only by the fault that the nodes tell.
+    // It ends with `BadFrame` only by the fault that the nodes tell, and where they tell one it ends by that.
     ensures off { IsOffAs (N.off nodes.new) result.0 }
+    ensures ended { IsEndedOff (N.off nodes.old) (N.off nodes.new) result.0 }
     // It ends with `Register` and `Failed` only where a call of the register failed. Where none failed and the register tells what
     // it holds, it ends with `Register` and `Damaged` only where that was damaged from that offset on, and with `Register` and
     // `Full` only where it wasn't, and where what it holds then leaves no room for an activation or a close.

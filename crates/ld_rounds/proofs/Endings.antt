@@ -1,5 +1,5 @@
 -- Why a drive ends.
-use Rattle.std.proofs.Common.{ℕ, ◌≤◌, List, [], ◌++◌, Option, sym, subst, arith, append_assoc}
+use Rattle.std.proofs.Common.{ℕ, ◌≤◌, ◌≡◌, List, [], ◌++◌, Option, None, Some, refl, ap, sym, subst, arith, ◌∙◌, append_assoc}
 use Rattle.std.specs.Prelude.{IfErr}
 use Rattle.std.specs.declared.result.Result.{Result}
 use Rattle.std.specs.declared.result.Result.TheVariants.{Ok, Err}
@@ -7,10 +7,15 @@ use Rattle.std.specs.Io.KnownBytes.{Appends}
 use Rattle.ld_io.specs.Causes.{Rose}
 use Rattle.ld_transcript.specs.declared.line.Line.{Line}
 use Rattle.ld_transcript.specs.Text.{text}
+use Rattle.ld_wire.specs.declared.fault.WireFault.{WireFault}
+use Rattle.ld_dial.specs.declared.fault.Fault.{Fault}
+use Rattle.ld_dial.specs.declared.fault.Fault.TheVariants as faults
+use Rattle.ld_dial.specs.Far.{KeepsFrame}
+use Rattle.ld_rounds.specs.Telling.{missed_by}
 use Rattle.ld_rounds.specs.declared.ended.Ended.{Ended}
 use Rattle.ld_rounds.specs.declared.ended.Ended.TheVariants as ends
 use Rattle.ld_rounds.specs.Ends.{IsSaid}
-use Rattle.ld_rounds.specs.Endings.{IsLater, SaysWhy, IsEnding}
+use Rattle.ld_rounds.specs.Endings.{IsLater, SaysWhy, IsEnding, EndsOff, EndedOff}
 use Rattle.ld_rounds.proofs.Writing.{Appends-nil, Appends-trans}
 
 -- ---- what is later ----
@@ -73,3 +78,41 @@ ending_said before now a b ls ends.Read i w = said_here before now a b ls ends.R
 pub cause_since : {R : Type 0} (k n m : ℕ) (a b c : Option (List ℕ)) (r : Result R Ended) → IsLater k n a b → IfErr r (IsEnding n m b c) → IfErr r (IsEnding k m a c)
 cause_since k n m a b c (Ok v) p i = i
 cause_since k n m a b c (Err e) p i = ending_since k n m a b c e p i
+
+-- ---- what begins no frame ----
+
+-- where the nodes say of none, it may end so
+pub none_off : {R : Type 0} (off : Option WireFault) (r : Result R Ended) → off ≡ None → EndsOff off r
+none_off None r h = tt
+none_off (Some fault) r h = absurd cc
+
+-- where it goes on they say of none
+pub goes_unoff : {R : Type 0} (off : Option WireFault) (v : R) → EndsOff off (Ok v) → off ≡ None
+goes_unoff None v h = refl
+goes_unoff {R} (Some fault) v h = (let wrong : Ok v ≡ Err (ends.BadFrame fault) = h in absurd cc)
+
+err_is : (R : Type 0) (e f : Ended) → ◌≡◌ {A = Result R Ended} (Err e) (Err f) → e ≡ f
+err_is R e f h = cc
+
+-- an ending, whatever is given where it goes on
+pub ends_as : (Q R : Type 0) (off : Option WireFault) (e : Ended) → EndsOff {T = Q} off (Err e) → EndsOff {T = R} off (Err e)
+ends_as Q R None e h = tt
+ends_as Q R (Some fault) e h = ap (λ (x : Ended). Err x) (err_is Q e (ends.BadFrame fault) h)
+
+-- an answer that begins no frame ends it
+pub missed_off : (before off : Option WireFault) (fault : Fault) → KeepsFrame before off (Err fault) → before ≡ None → EndsOff off (missed_by fault)
+missed_off before off faults.Link k h = none_off off (missed_by faults.Link) (k ∙ h)
+missed_off before off faults.NoMemory k h = none_off off (missed_by faults.NoMemory) (k ∙ h)
+missed_off before off (faults.BadFrame frame) k h = subst (λ (x : Option WireFault). EndsOff x (missed_by (faults.BadFrame frame))) (sym k) refl
+
+-- the same of how it ended
+pub none_ended : (off : Option WireFault) (e : Ended) → off ≡ None → EndedOff off e
+none_ended None e h = tt
+none_ended (Some fault) e h = absurd cc
+
+pub goes_ended : {R : Type 0} (off : Option WireFault) (v : R) (e : Ended) → EndsOff off (Ok v) → EndedOff off e
+goes_ended off v e h = none_ended off e (goes_unoff off v h)
+
+pub err_ended : (R : Type 0) (off : Option WireFault) (e : Ended) → EndsOff {T = R} off (Err e) → EndedOff off e
+err_ended R None e h = tt
+err_ended R (Some fault) e h = err_is R e (ends.BadFrame fault) h

@@ -1,6 +1,6 @@
 -- A sequencer is driven over payloads.
-use Rattle.std.proofs.Common.{◌≡◌, ◌≤◌, ℕ, refl, sym, ap, subst, Bool, true, false, List, ◌∷◌, Option, None, Some, Ok, Err, ◌∙◌, arith}
-use Rattle.std.specs.Prelude.{IfErr, OnOk}
+use Rattle.std.proofs.Common.{◌≡◌, ◌≤◌, ℕ, refl, sym, ap, subst, Bool, true, false, List, ◌∷◌, Option, None, Some, Ok, Err, ◌∙◌, arith, ◌&&◌, [], ◌++◌, append_assoc}
+use Rattle.std.specs.Prelude.{IfErr, OnOk, MatchOption}
 use Rattle.std.specs.declared.result.Result.{Result}
 use Rattle.ld_io.specs.Causes.{Rose}
 use Rattle.ld_config.specs.declared.config.Config.{Config}
@@ -8,16 +8,19 @@ use Rattle.ld_config.specs.Bounds.{IsInBounds}
 use Rattle.ld_schedule.specs.declared.event.Event.{Event}
 use Rattle.ld_msg.specs.declared.msg.Msg.{Msg}
 use Rattle.ld_machine.specs.State.{State}
+use Rattle.ld_machine.specs.Run.{state_after}
+use Rattle.ld_wire.specs.declared.fault.WireFault.{WireFault}
 use Rattle.ld_dial.specs.Far.{Far}
 use Rattle.ld_rounds.specs.declared.ended.Ended.{Ended}
 use Rattle.ld_rounds.specs.declared.ended.Ended.TheVariants as ends
-use Rattle.ld_rounds.specs.Endings.{IsLater, IsEnding}
-use Rattle.ld_rounds.specs.Input.{Input, all_taken, ComesTo}
-use Rattle.ld_rounds.specs.Feeding.{upcoming, NextIs, WasOver, IsAhead, SameBehind, IsOffBehind, IsInputEnding, IsAppendEnding}
+use Rattle.ld_rounds.specs.Endings.{IsLater, IsEnding, IsOffAs}
+use Rattle.ld_rounds.specs.Input.{Input, all_taken, GivesNext, ComesTo}
+use Rattle.ld_rounds.specs.Feeding.{upcoming, NextIs, WasOver, IsAhead, SameBehind, StaysAs, HasCome, IsOffBehind, IsInputEnding, IsAppendEnding}
+use Rattle.ld_rounds.specs.Rounds.{HasFed, Feeds, FeedsUntil, Rounds, RoundsUntil}
 use Rattle.ld_rounds.specs.Drives.{Driver, Went, Stops, GoesOn}
-use Rattle.ld_rounds.proofs.Joining.{Joins, IsPartly}
+use Rattle.ld_rounds.proofs.Joining.{Joins, IsPartly, round_as, round_part, until_end, input_until}
 use Rattle.ld_rounds.proofs.Endings.{ending_since}
-use Rattle.ld_rounds.proofs.Going.{NoFrame, halted, went_such, goes_as, goes_further}
+use Rattle.ld_rounds.proofs.Going.{NoFrame, halted, went_such, went_as, goes_as, goes_further}
 
 rose_since : (k n m : ℕ) → k ≤ n → Rose n m → Rose k m
 rose_since k n m l r = omega (arith, l, r)
@@ -59,13 +62,13 @@ of_input o p q k m a c (ends.Register fault) i = absurd i
 
 pub same_here : (i : Option Input) → SameBehind i i
 same_here None = tt
-same_here (Some i) = record { left = i; now = refl; off = refl }
+same_here (Some i) = record { left = i; now = refl; front = []; payloads = refl; off = refl }
 
 pub same_on : (i j k : Option Input) → SameBehind i j → SameBehind j k → SameBehind i k
 same_on None j k a b = tt
 same_on (Some i) j k a b =
     let h : IsAhead a.left k = subst (λ o. SameBehind o k) a.now b in
-    record { left = h.left; now = h.now; off = h.off ∙ a.off }
+    record { left = h.left; now = h.now; front = a.front ++ h.front; payloads = a.payloads ∙ (ap (λ l. a.front ++ l) h.payloads ∙ sym (append_assoc a.front h.front h.left.payloads)); off = h.off ∙ a.off }
 
 pub off_since : (i j : Option Input) (line place : ℕ) → SameBehind i j → IsOffBehind j line place → IsOffBehind i line place
 off_since None j line place a o = tt
@@ -75,12 +78,21 @@ off_since (Some i) j line place a o =
 
 pub next_behind : (i j : Option Input) (o : Option (List ℕ)) → NextIs i j (Ok o) → SameBehind i j
 next_behind None j o n = tt
-next_behind (Some i) j (Some payload) n = record { left = record { payloads = n.rest; off = i.off }; now = n.left; off = refl }
-next_behind (Some i) j None n = record { left = all_taken; now = n.1; off = ap (λ (x : Input). x.off) (sym n.0) }
+next_behind (Some i) j (Some payload) n = record { left = record { payloads = n.rest; off = i.off }; now = n.left; front = payload ∷ []; payloads = n.first; off = refl }
+next_behind (Some i) j None n = record { left = all_taken; now = n.1; front = []; payloads = ap (λ (x : Input). x.payloads) n.0; off = ap (λ (x : Input). x.off) (sym n.0) }
 
-pub held_behind : (i coming : Option Input) (payload : List ℕ) → SameBehind i coming → SameBehind i (upcoming (Some payload) coming)
-held_behind None coming payload h = tt
-held_behind (Some i) coming payload h = record { left = record h.left { payloads = payload ∷ h.left.payloads }; now = ap (upcoming (Some payload)) h.now; off = h.off }
+-- the next one is taken, and held
+pub held_behind : (i j coming : Option Input) (payload : List ℕ) → SameBehind i j → NextIs j coming (Ok (Some payload)) → SameBehind i (upcoming (Some payload) coming)
+held_behind None j coming payload h n = tt
+held_behind (Some i) j coming payload h n =
+    let m : GivesNext h.left coming payload = subst (λ x. NextIs x coming (Ok (Some payload))) h.now n in
+    record {
+      left = record { payloads = payload ∷ m.rest; off = h.left.off };
+      now = ap (upcoming (Some payload)) m.left;
+      front = h.front;
+      payloads = h.payloads ∙ ap (λ l. h.front ++ l) m.first;
+      off = h.off;
+    }
 
 pub held_next : (payload : List ℕ) (coming : Option Input) → NextIs (upcoming (Some payload) coming) coming (Ok (Some payload))
 held_next payload None = tt
@@ -97,6 +109,48 @@ over_now (Some o) i j k true p q n =
 pub over_later : (origin coming : Option Input) (b : Bool) → b ≡ false → WasOver origin b coming
 over_later origin coming false e = tt
 over_later origin coming true e = absurd cc
+
+-- ---- what stays still to come ----
+
+pub stays_behind : (i j : Option Input) → StaysAs i j → SameBehind i j
+stays_behind None j h = tt
+stays_behind (Some i) j h = record { left = i; now = h; front = []; payloads = refl; off = refl }
+
+pub stays_here : (i : Option Input) → StaysAs i i
+stays_here None = tt
+stays_here (Some i) = refl
+
+-- the next one is taken, and held
+pub next_stays : (i coming : Option Input) (o : Option (List ℕ)) → NextIs i coming (Ok o) → StaysAs i (upcoming o coming)
+next_stays None coming o n = tt
+next_stays (Some i) coming (Some payload) n = ap (upcoming (Some payload)) n.left ∙ ap (λ (ps : List (List ℕ)). Some (record i { payloads = ps })) (sym n.first)
+next_stays (Some i) coming None n = n.1 ∙ ap (λ (x : Input). Some x) (sym n.0)
+
+-- the input has ended by that, where it has
+pub over_next : (origin i coming : Option Input) (o : Option (List ℕ)) (before now : Bool) → SameBehind origin i → NextIs i coming (Ok o) → before ≡ false → MatchOption o (now ≡ true) (λ payload. now ≡ before) → WasOver origin now (upcoming o coming)
+over_next origin i coming None before now p n f m = over_now origin i i coming now p (same_here i) n
+over_next origin i coming (Some payload) before now p n f m = over_later origin (upcoming (Some payload) coming) now (m ∙ f)
+
+pub ended_next : (o : Option (List ℕ)) (before now : Bool) → MatchOption o (now ≡ true) (λ payload. now ≡ before) → o ≡ None → now ≡ true
+ended_next None before now m h = m
+ended_next (Some payload) before now m h = absurd cc
+
+module _ (c : Config) where
+  pub stays_fed : (i j k : Option Input) (s : State) (es : List Event) → StaysAs i j → Feeds c j k s es → Feeds c i k s es
+  stays_fed None j k s es h f = tt
+  stays_fed (Some i) j k s es h f = subst (λ o. Feeds c o k s es) h f
+
+  pub fed_stays : (i j k : Option Input) (s : State) (es : List Event) → Feeds c i j s es → StaysAs j k → Feeds c i k s es
+  fed_stays None j k s es f h = tt
+  fed_stays (Some i) j k s es f h = record { left = f.left; now = subst (λ o. StaysAs o k) f.now h; payloads = f.payloads; off = f.off }
+
+  pub stays_until : (i j : Option Input) (e : Ended) (s : State) (es : List Event) → StaysAs i j → FeedsUntil c j e s es → FeedsUntil c i e s es
+  stays_until None j e s es h f = tt
+  stays_until (Some i) j e s es h f = subst (λ o. FeedsUntil c o e s es) h f
+
+-- both can't be
+pub never : (b : Bool) → b ≡ true → b ≡ false → ⊥
+never b t f = (let wrong : true ≡ false = sym t ∙ f in absurd cc)
 
 -- since before
 pub append_since : (x y : Option Input) (o p q k n m : ℕ) (a b c : Option (List ℕ)) (e : Ended) → SameBehind x y → o ≤ p → IsLater k n a b → IsAppendEnding y p q n m b c e → IsAppendEnding x o q k m a c e
@@ -171,3 +225,54 @@ pub apart_on : (who : Driver) (broken : Type 0) (c : Config) (first : ℕ) (b : 
 apart_on who broken c first b P N M E F A B s far qs rs old mid new r j k w v =
     goes_further who broken c first b P N M E F A B (λ now. now ≡ far) (λ now. now ≡ far) s qs rs old mid new r j k w
     (goes_as who broken c first b N E broken B (λ now. now ≡ w.far) (λ now. now ≡ far) w.moved.state rs mid new r (λ l. l) (λ f e. e ∙ w.told) v)
+
+pub all_done : (a b d x : Bool) → x ≡ (a && (b && d)) → x ≡ true → (a ≡ true) × (b ≡ true) × (d ≡ true)
+all_done true true true x h t = (refl, refl, refl)
+all_done true true false x h t = absurd (never x t h)
+all_done true false d x h t = absurd (never x t h)
+all_done false b d x h t = absurd (never x t h)
+
+-- the input has no frames
+pub input_off : {R : Type 0} (off : Option WireFault) (i : Option Input) (p q : ℕ) (r : Result R Ended) → IfErr r (IsInputEnding i p q) → IfErr r (IsOffAs off)
+input_off off i p q (Ok v) h = tt
+input_off off i p q (Err e) h = by_end e h
+  where
+    by_end : (e : Ended) → IsInputEnding i p q e → IsOffAs off e
+    by_end (ends.BadFrame fault) h = absurd h
+    by_end e h = tt
+
+pub stays_given : {R : Type 0} (i j k : Option Input) (r : Result R Ended) → SameBehind i j → OnOk r (StaysAs j k) → OnOk r (SameBehind i k)
+stays_given i j k (Ok v) a b = same_on i j k a (stays_behind j k b)
+stays_given i j k (Err e) a b = tt
+
+-- behind a round the next payload is waited for
+pub waited_so : (who : Driver) (broken : Type 0) (c : Config) (first : ℕ) (b : IsInBounds c) {R : Type 0} (name : List ℕ) (dry : Type 0) (ys : List ℕ) (f : Bool) (i j k : Option Input) (p q : ℕ) (less : Type 0) (A : Config → State → Type 0) (T U : Far → Type 0) (s : State) (qs : List (List Msg)) (old new : Option (List ℕ)) (r : Result R Ended)
+    → (less → broken) → ((far : Far) → T far → U far) → OnOk r (StaysAs j k) → IfErr r (λ e. NextIs j k (Err e)) → IfErr r (IsInputEnding j p q)
+    → Went who less (Rounds name c dry first ys f i j) A T c first s qs old new → GoesOn who broken (Rounds name c (Unit {0}) first ys f i k) (RoundsUntil name c f i) A U c first s qs old new r
+waited_so who broken c first b name dry ys f i j k p q less A T U s qs old new (Ok v) l t y n z w =
+    went_such who broken c first b less (Rounds name c dry first ys f i j) (Rounds name c (Unit {0}) first ys f i k) A T U s qs old new l t w
+    (λ es o x. (round_as c name dry (Unit {0}) first ys f s es (λ d. tt) x.0, fed_stays c i j k s es x.1 y))
+waited_so who broken c first b name dry ys f i j k p q less A T U s qs old new (Err e) l t y n z w =
+    input_stops who broken c first b (Rounds name c dry first ys f i j) (RoundsUntil name c f i) A U s qs old new e (input_unframed j p q e z)
+    (λ es x. (round_part c name dry first ys f s es x.0, until_end c i j e s es x.1 (input_until c j k e p q j (state_after c s es) n z)))
+    (went_as who broken c first b (Rounds name c dry first ys f i j) less A T U s qs old new l t w)
+
+-- where it isn't done though all but the input is, a payload came
+none_there : (front : List (List ℕ)) (payload : List ℕ) (rest : List (List ℕ)) → front ++ payload ∷ rest ≡ [] → ⊥
+none_there [] payload rest h = absurd cc
+none_there (p ∷ front) payload rest h = absurd cc
+
+over_or : (a b over : Bool) → (a && (b && over)) ≡ false → over ≡ true → (a && b) ≡ true → ⊥
+over_or true true true d o h = never true refl d
+over_or true true false d o h = never false o refl
+over_or true false over d o h = never false h refl
+over_or false b over d o h = never false h refl
+
+pub has_come : (i : Option Input) (held : Option (List ℕ)) (coming : Option Input) (a b over : Bool) → SameBehind i (upcoming held coming) → (a && (b && over)) ≡ false → ((a && b) ≡ true → held ≡ None → over ≡ true) → (a && b) ≡ true → HasCome i
+has_come None held coming a b over s d k h = tt
+has_come (Some i) (Some payload) None a b over s d k h = (let wrong : None ≡ Some s.left = s.now in absurd cc)
+has_come (Some i) (Some payload) (Some input) a b over s d k h = λ none.
+    let is : Some (record input { payloads = payload ∷ input.payloads }) ≡ Some s.left = s.now in
+    let left : record input { payloads = payload ∷ input.payloads } ≡ s.left = cc in
+    none_there s.front payload input.payloads (ap (λ (x : Input). s.front ++ x.payloads) left ∙ (sym s.payloads ∙ none))
+has_come (Some i) None coming a b over s d k h = absurd (over_or a b over d (k h refl) h)

@@ -17,7 +17,7 @@ use Rattle.ld_rounds.specs.declared.ended.Ended.TheVariants as ends
 use Rattle.ld_rounds.specs.Input.{Input, all_taken}
 use Rattle.ld_rounds.specs.Feeding.{upcoming, NoneComes, WasOver, NextIs, IsInputEnding}
 use Rattle.ld_rounds.specs.Drives.{Turned}
-use Rattle.ld_rounds.specs.Rounds.{Splits, is_quiet, Quiet, IsDelivered, waiting_by, waiting_in, waiting, IsTickBehind, IsReminded, IsCalm, AreCalm, Calm, ticks_only, Visiting, IsVisit, AreVisits, IsPolled, IsReadRound, IsReadPart, AreReadRounds, IsRetry, MayRetry, IsAppendRound, AreAppendRounds, AreAppends, IsAppendBy, IsBegun, tells_full, taken_by, taken_of, HasFed, Feeds, HasFedSome, FeedsUntil, Both}
+use Rattle.ld_rounds.specs.Rounds.{Splits, is_quiet, Quiet, IsDelivered, waiting_by, waiting_in, waiting, IsTickBehind, IsReminded, IsCalm, AreCalm, Calm, ticks_only, Visiting, IsVisit, AreVisits, IsPolled, IsReadRound, IsReadPart, AreReadRounds, IsRetry, MayRetry, IsAppendRound, AreAppendRounds, AreAppends, IsAppendBy, IsBegun, tells_full, taken_by, taken_of, HasFed, Feeds, HasFedSome, FeedsUntil, Both, FindRoom, Fills, IsFull, finds_full, AreFilling, IsPrepared, IsAppendPart, finds_final}
 
 -- by so many rounds
 pub turned : {Y : Type 0} {W : ℕ → Type 0} (low high n : ℕ) → low ≤ n → n < high → Y ⊎ W n → Y ⊎ Turned low high W
@@ -176,7 +176,7 @@ module _ (c : Config) where
   part_begun sparing name first ys s es (inr p) = inr (splits_end (IsPolled sparing name first ys) (Calm c) s es p tt)
 
   -- one more of a sequencer
-  pub append_more : (name : List ℕ) (first : ℕ) (ys : List ℕ) (n : ℕ) → Joins c (AreAppendRounds name c first ys n) (IsAppendRound name c first ys (n == 0)) (AreAppendRounds name c first ys (n + 1))
+  pub append_more : (name : List ℕ) (first : ℕ) (ys : List ℕ) (n : ℕ) → Joins c (AreAppendRounds name c first ys n) (IsAppendRound name c (Unit {0}) first ys (n == 0)) (AreAppendRounds name c first ys (n + 1))
   append_more name first ys n s es fs h r =
       let e : n + 1 ≡ suc n = omega arith in
       subst (λ (k : ℕ). AreAppendRounds name c first ys k s (es ++ fs)) (sym e) (record { front = es; rest = fs; whole = refl; came = h; goes = r })
@@ -346,7 +346,7 @@ module _ (c : Config) where
   begun_takes name payload s es (inl h) = inl (ap (taken_of c s) h)
   begun_takes name payload s es (inr h) =
       let t : taken_of c s es ≡ taken_by c s (events.Append name payload) = ap (taken_of c s) h ∙ append-nil (taken_by c s (events.Append name payload)) in
-      elim (taken_or (tells_full (happens c s (events.Append name payload)).lines) payload) [ inl x ↦ inl (t ∙ x) | inr x ↦ inr (t ∙ x) ]
+      elim (taken_or (finds_full c s (events.Append name payload)) payload) [ inl x ↦ inl (t ∙ x) | inr x ↦ inr (t ∙ x) ]
 
   pub one_until : (i j : Option Input) (name payload : List ℕ) (e : Ended) (s : State) (es : List Event) → NextIs i j (Ok (Some payload)) → IsPartly e → IsBegun (events.Append name payload) s es → FeedsUntil c i e s es
   one_until None j name payload e s es x p h = tt
@@ -383,3 +383,34 @@ module _ (c : Config) where
   pub begun_appends : (name payload : List ℕ) (s : State) (es : List Event) → IsBegun (events.Append name payload) s es → AreAppends name s es
   begun_appends name payload s es (inl h) = subst (λ (l : List Event). AreAppends name s l) (sym h) tt
   begun_appends name payload s es (inr h) = subst (λ (l : List Event). AreAppends name s l) (sym h) (refl, tt)
+
+  -- ---- room in the window ----
+
+  room_on : Joins c (FindRoom c) (FindRoom c) (FindRoom c)
+  unfolding state_after
+  room_on s [] fs a b = b
+  room_on s (e ∷ es) fs a b = (a.0, a.1, room_on (step c s e).state es fs a.2 b)
+
+  -- one more finds room
+  pub room_more : (e : Event) (s : State) (es fs : List Event) → FindRoom c s es → fs ≡ e ∷ [] → finds_full c (state_after c s es) e ≡ false → finds_final c (state_after c s es) e ≡ false → FindRoom c s (es ++ fs)
+  room_more e s es fs a h f n = room_on s es fs a (subst (λ (l : List Event). FindRoom c (state_after c s es) l) (sym h) (f, n, tt))
+
+  -- one more doesn't
+  pub full_last : (dry : Type 0) (e : Event) (s : State) (es fs : List Event) → FindRoom c s es → fs ≡ e ∷ [] → finds_full c (state_after c s es) e ≡ true → Fills c dry s (es ++ fs)
+  full_last dry e s es fs a h f = inr (record { front = es; rest = fs; whole = refl; came = a; goes = record { event = e; one = h; full = f } })
+
+  -- less is said of what was to be had
+  fills_as : (P Q : Type 0) (s : State) (es : List Event) → (P → Q) → Fills c P s es → Fills c Q s es
+  fills_as P Q s es f (inl h) = inl (h.0, f h.1)
+  fills_as P Q s es f (inr h) = inr h
+
+  pub round_as : (name : List ℕ) (P Q : Type 0) (first : ℕ) (ys : List ℕ) (b : Bool) (s : State) (es : List Event) → (P → Q) → IsAppendRound name c P first ys b s es → IsAppendRound name c Q first ys b s es
+  round_as name P Q first ys b s es f h =
+      splits_as (IsPrepared name c P b) (AreVisits c first ys) (IsPrepared name c Q b) (AreVisits c first ys) s es
+      (λ t fs x. splits_as (IsRetry name b) (AreFilling name c P) (IsRetry name b) (AreFilling name c Q) t fs (λ u l y. y) (λ u l y. (y.0, fills_as P Q u l f y.1)) x) (λ t fs x. x) h
+
+  -- a round is a part of one
+  pub round_part : (name : List ℕ) (P : Type 0) (first : ℕ) (ys : List ℕ) (b : Bool) (s : State) (es : List Event) → IsAppendRound name c P first ys b s es → IsAppendPart name c b s es
+  round_part name P first ys b s es h =
+      splits_as (IsPrepared name c P b) (AreVisits c first ys) (Splits (MayRetry name b) (AreAppends name) c) (Calm c) s es
+      (λ t fs x. splits_as (IsRetry name b) (AreFilling name c P) (MayRetry name b) (AreAppends name) t fs (may_retry name b) (λ u l y. y.0) x) (visits_calm first ys) h

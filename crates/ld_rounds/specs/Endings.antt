@@ -1,5 +1,7 @@
 -- Why a drive ends in a round.
-use Rattle.std.specs.Prelude.{ℕ, ◌≡◌, ◌≤◌, List, ◌++◌, Option, Some}
+use Rattle.std.specs.Prelude.{ℕ, ◌≡◌, ◌≤◌, List, ◌++◌, Option, None, Some}
+use Rattle.std.specs.declared.result.Result.{Result}
+use Rattle.std.specs.declared.result.Result.TheVariants.{Err}
 use Rattle.std.specs.Io.KnownBytes.{Appends}
 use Rattle.ld_io.specs.Causes.{Rose}
 use Rattle.ld_transcript.specs.declared.line.Line.{Line}
@@ -33,3 +35,16 @@ IsEnding before now old new ended = SaysWhy old new ended
 abbrev pub IsOffAs : Option WireFault → Ended → Type 0
 IsOffAs off (ends.BadFrame fault) = off ≡ Some fault
 IsOffAs off _ = Unit {0}
+
+-- where what a node sent begins no frame, as the nodes say, it ends by that
+abbrev pub EndsOff : {T : Type 0} → Option WireFault → Result T Ended → Type 0
+EndsOff None result = Unit {0}
+EndsOff (Some fault) result = result ≡ Err (ends.BadFrame fault)
+
+-- the same of how it ended, where the nodes said of no such node before
+abbrev pub EndedOff : Option WireFault → Ended → Type 0
+EndedOff None ended = Unit {0}
+EndedOff (Some fault) ended = ended ≡ ends.BadFrame fault
+
+abbrev pub IsEndedOff : Option WireFault → Option WireFault → Ended → Type 0
+IsEndedOff before off ended = before ≡ None → EndedOff off ended

@@ -1,5 +1,5 @@
 -- What is fed to a sequencer that is driven, and why its drive ends.
-use Rattle.std.specs.Prelude.{ℕ, ◌≡◌, List, ◌∷◌, Option, None, Some, Bool, true, false, IfSome}
+use Rattle.std.specs.Prelude.{ℕ, ◌≡◌, ◌≢◌, List, [], ◌∷◌, ◌++◌, Option, None, Some, Bool, true, false, IfSome}
 use Rattle.std.specs.declared.result.Result.{Result}
 use Rattle.std.specs.declared.result.Result.TheVariants.{Ok, Err}
 use Rattle.ld_io.specs.Causes.{Rose}
@@ -24,15 +24,27 @@ NextIs (Some old) new (Ok None) = (old ≡ all_taken) × (new ≡ Some all_taken
 NextIs (Some old) new (Err (ends.BadLine line place)) = IsOff old line place
 NextIs (Some old) new (Err _) = Unit {0}
 
--- behind all payloads comes the same as before
+-- some of the payloads are still to come, and behind them the same as before
 pub record IsAhead (old : Input) (new : Option Input) : Type 0 where
   pub left : Input
   pub now : new ≡ Some left
+  pub front : List (List ℕ)
+  pub payloads : old.payloads ≡ front ++ left.payloads
   pub off : left.off ≡ old.off
 
 abbrev pub SameBehind : Option Input → Option Input → Type 0
 SameBehind None new = Unit {0}
 SameBehind (Some old) new = IsAhead old new
+
+-- the same is still to come
+abbrev pub StaysAs : Option Input → Option Input → Type 0
+StaysAs None new = Unit {0}
+StaysAs (Some old) new = new ≡ Some old
+
+-- a payload came
+abbrev pub HasCome : Option Input → Type 0
+HasCome None = Unit {0}
+HasCome (Some input) = input.payloads ≢ []
 
 -- where it is told what came first, nothing more comes
 abbrev pub NoneComes : Option Input → Option Input → Type 0

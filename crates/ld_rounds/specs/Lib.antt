@@ -7,6 +7,7 @@ pub mod Input
 pub mod Lines
 pub mod News
 pub mod Output
+pub mod Pace
 pub mod Queued
 pub mod Reaching
 pub mod Refusals

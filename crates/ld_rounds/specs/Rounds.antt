@@ -17,6 +17,7 @@ use Rattle.ld_machine.specs.Step.{happens}
 use Rattle.ld_machine.specs.Run.{step, state_after}
 use Rattle.ld_rounds.specs.declared.ended.Ended.{Ended}
 use Rattle.ld_rounds.specs.declared.ended.Ended.TheVariants as ends
+use Rattle.ld_rounds.specs.Ends.{tells_by, is_final}
 use Rattle.ld_rounds.specs.Input.{Input, ComesTo}
 use Rattle.ld_rounds.specs.Queued.{queue_of}
 use Rattle.ld_rounds.specs.News.{AreNews, some_wait}
@@ -163,26 +164,6 @@ IsAppendBy name _ = ⊥
 abbrev pub AreAppends : List ℕ → State → List Event → Type 0
 AreAppends name s es = AllByRecursion (IsAppendBy name) es
 
--- it sends again, and payloads are appended
-abbrev pub IsPrepared : List ℕ → Config → Bool → State → List Event → Type 0
-IsPrepared name c is_first s es = Splits (IsRetry name is_first) (AreAppends name) c s es
-
--- and then the nodes are visited
-abbrev pub IsAppendRound : List ℕ → Config → ℕ → List ℕ → Bool → State → List Event → Type 0
-IsAppendRound name c first ys is_first s es = Splits (IsPrepared name c is_first) (AreVisits c first ys) c s es
-
--- so far
-abbrev pub IsAppendPart : List ℕ → Config → Bool → State → List Event → Type 0
-IsAppendPart name c is_first s es = Splits (Splits (MayRetry name is_first) (AreAppends name) c) (Calm c) c s es
-
-abbrev pub AreAppendRounds : List ℕ → Config → ℕ → List ℕ → ℕ → State → List Event → Type 0
-AreAppendRounds name c first ys n s es = AreRounds (λ k. IsAppendRound name c first ys (k == 0)) c n s es
-
-abbrev pub AreReadRounds : Bool → List ℕ → Config → ℕ → List ℕ → ℕ → State → List Event → Type 0
-AreReadRounds sparing name c first ys n s es = AreRounds (λ k. IsReadRound sparing name c first ys) c n s es
-
--- ---- payloads ----
-
 abbrev pub is_full_line : Line → Bool
 is_full_line (lines.RefusedWindowFull name) = true
 is_full_line _ = false
@@ -192,9 +173,65 @@ abbrev pub tells_full : List Line → Bool
 tells_full [] = false
 tells_full (l ∷ ls) = if is_full_line l then true else tells_full ls
 
+-- what happens by the event is refused since the window is full
+abbrev pub finds_full : Config → State → Event → Bool
+finds_full c s e = tells_full (happens c s e).lines
+
+-- what happens by the event is refused since the sequencer was preempted, or since its numbers are used up
+abbrev pub finds_final : Config → State → Event → Bool
+finds_final c s e = tells_by is_final (happens c s e).lines
+
+-- none of them is refused so
+abbrev pub FindRoom : Config → State → List Event → Type 0
+FindRoom c s [] = Unit {0}
+FindRoom c s (e ∷ es) = (finds_full c s e ≡ false) × (finds_final c s e ≡ false) × FindRoom c (step c s e).state es
+
+-- this one event finds the window full
+pub record IsFull (c : Config) (s : State) (es : List Event) : Type 0 where
+  pub event : Event
+  pub one : es ≡ event ∷ []
+  pub full : finds_full c s event ≡ true
+
+-- the last one finds the window full, and each before it found room; or all did, and no more was to be had
+abbrev pub Fills : Config → Type 0 → State → List Event → Type 0
+Fills c dry s es = (FindRoom c s es × dry) ⊎ Splits (FindRoom c) (IsFull c) c s es
+
+-- the input is over, or doesn't tell that the next payload is ready
+abbrev pub IsDry : Bool → Option Bool → Type 0
+IsDry is_over ready = (is_over ≡ true) ⊎ (ready ≡ Some true → ⊥)
+
+-- payloads are appended until one finds the window full, or no more is to be had
+abbrev pub AreFilling : List ℕ → Config → Type 0 → State → List Event → Type 0
+AreFilling name c dry s es = AreAppends name s es × Fills c dry s es
+
+-- so far
+abbrev pub FindingRoom : List ℕ → Config → State → List Event → Type 0
+FindingRoom name c s es = AreAppends name s es × FindRoom c s es
+
+-- it sends again, and payloads are appended so
+abbrev pub IsPrepared : List ℕ → Config → Type 0 → Bool → State → List Event → Type 0
+IsPrepared name c dry is_first s es = Splits (IsRetry name is_first) (AreFilling name c dry) c s es
+
+-- and then the nodes are visited
+abbrev pub IsAppendRound : List ℕ → Config → Type 0 → ℕ → List ℕ → Bool → State → List Event → Type 0
+IsAppendRound name c dry first ys is_first s es = Splits (IsPrepared name c dry is_first) (AreVisits c first ys) c s es
+
+-- so far
+abbrev pub IsAppendPart : List ℕ → Config → Bool → State → List Event → Type 0
+IsAppendPart name c is_first s es = Splits (Splits (MayRetry name is_first) (AreAppends name) c) (Calm c) c s es
+
+-- so many; which ones no more was to be had in isn't told
+abbrev pub AreAppendRounds : List ℕ → Config → ℕ → List ℕ → ℕ → State → List Event → Type 0
+AreAppendRounds name c first ys n s es = AreRounds (λ k. IsAppendRound name c (Unit {0}) first ys (k == 0)) c n s es
+
+abbrev pub AreReadRounds : Bool → List ℕ → Config → ℕ → List ℕ → ℕ → State → List Event → Type 0
+AreReadRounds sparing name c first ys n s es = AreRounds (λ k. IsReadRound sparing name c first ys) c n s es
+
+-- ---- payloads ----
+
 -- an append takes its payload, unless the machine answers that the window is full
 abbrev pub taken_by : Config → State → Event → List (List ℕ)
-taken_by c s (events.Append name payload) = if tells_full (happens c s (events.Append name payload)).lines then [] else payload ∷ []
+taken_by c s (events.Append name payload) = if finds_full c s (events.Append name payload) then [] else payload ∷ []
 taken_by c s _ = []
 
 -- the payloads that the appends took, in their order
@@ -230,23 +267,27 @@ FeedsUntil c (Some old) _ s es = HasFedSome c old s es
 abbrev pub Both : (State → List Event → Type 0) → (State → List Event → Type 0) → State → List Event → Type 0
 Both P Q s es = P s es × Q s es
 
+-- appends of what came that all found room
+abbrev pub Adding : List ℕ → Config → Option Input → Option Input → State → List Event → Type 0
+Adding name c old new = Both (FindingRoom name c) (Feeds c old new)
+
 -- appends of what came, and so until it ends
-abbrev pub Adds : List ℕ → Config → Option Input → Option Input → State → List Event → Type 0
-Adds name c old new = Both (AreAppends name) (Feeds c old new)
+abbrev pub Adds : List ℕ → Config → Type 0 → Option Input → Option Input → State → List Event → Type 0
+Adds name c dry old new = Both (AreFilling name c dry) (Feeds c old new)
 
 abbrev pub AddsUntil : List ℕ → Config → Option Input → Ended → State → List Event → Type 0
 AddsUntil name c old ended = Both (AreAppends name) (FeedsUntil c old ended)
 
 -- the same with what is sent again before
-abbrev pub Prepares : List ℕ → Config → Bool → Option Input → Option Input → State → List Event → Type 0
-Prepares name c is_first old new = Both (IsPrepared name c is_first) (Feeds c old new)
+abbrev pub Prepares : List ℕ → Config → Type 0 → Bool → Option Input → Option Input → State → List Event → Type 0
+Prepares name c dry is_first old new = Both (IsPrepared name c dry is_first) (Feeds c old new)
 
 abbrev pub PreparesUntil : List ℕ → Config → Bool → Option Input → Ended → State → List Event → Type 0
 PreparesUntil name c is_first old ended = Both (Splits (MayRetry name is_first) (AreAppends name) c) (FeedsUntil c old ended)
 
 -- the same with visits
-abbrev pub Rounds : List ℕ → Config → ℕ → List ℕ → Bool → Option Input → Option Input → State → List Event → Type 0
-Rounds name c first ys is_first old new = Both (IsAppendRound name c first ys is_first) (Feeds c old new)
+abbrev pub Rounds : List ℕ → Config → Type 0 → ℕ → List ℕ → Bool → Option Input → Option Input → State → List Event → Type 0
+Rounds name c dry first ys is_first old new = Both (IsAppendRound name c dry first ys is_first) (Feeds c old new)
 
 abbrev pub RoundsUntil : List ℕ → Config → Bool → Option Input → Ended → State → List Event → Type 0
 RoundsUntil name c is_first old ended = Both (IsAppendPart name c is_first) (FeedsUntil c old ended)

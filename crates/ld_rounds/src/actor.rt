@@ -1,5 +1,5 @@
 // An actor that is driven.
-ghost use Rattle.std.specs.Prelude.{ℕ, ◌≡◌, List, IsTrue, IfOk, IfSome};
+ghost use Rattle.std.specs.Prelude.{ℕ, ◌≡◌, List, Bool, false, None, IsTrue, IfOk, IfSome};
 ghost use Rattle.ld_config.specs.declared.config.Config.{Config};
 ghost use Rattle.ld_config.specs.Bounds.{IsInBounds};
 ghost use Rattle.ld_msg.specs.declared.msg.Msg.{Msg as Message};
@@ -10,7 +10,8 @@ ghost use Rattle.ld_machine.specs.Disk.{Node as Place};
 ghost use Rattle.ld_machine.specs.State.{State};
 ghost use Rattle.ld_machine.specs.Step.{comes_to};
 ghost use Rattle.ld_bounds.specs.Sound.{IsSound};
-ghost use Rattle.ld_rounds.specs.Ends.{IsSaid};
+ghost use Rattle.ld_transcript.specs.declared.line.Line.{Line as Said};
+ghost use Rattle.ld_rounds.specs.Ends.{IsSaid, tells_by};
 ghost use Rattle.ld_rounds.specs.Acts.{IsActed, Own};
 ghost use Rattle.ld_rounds.specs.Reminding.{reminded};
 
@@ -46,13 +47,16 @@ pub trait Actor {
     /// What it may take: messages to one of its kind.
     ghost hears: { Self → Message → Type 0 };
 
+    /// The lines that end its drive.
+    ghost finals: { Said → Bool };
+
     /// Whether the message is for it, by the addressee and the log.
     fn is_for(&self, message: &Msg) -> bool
         ensures heard { IsTrue result → hears self.now message.now }
         ensures taken { (c : Config) (s : State) → stands self.now c s → result ≡ (own self.now).takes s message.now };
 
-    /// Takes a message of a node that is for it. It ends where it says so in a line. After running out of memory it is of
-    /// no use.
+    /// Takes a message of a node that is for it. It ends where it says so in a line, and where a line ends its drive. After
+    /// running out of memory it is of no use.
     fn hear(&mut self, alloc: Global, message: &Msg) -> Result<Heard, NoMemory>
         requires message { IsMessage message.now }
         requires hears { hears self.old message.now }
@@ -60,6 +64,7 @@ pub trait Actor {
         ensures acted { IfOk result (λ heard. (c : Config) (s : State) → IsInBounds c → IsSound c s → stands self.old c s
             → IsActed (stands self.new c) s heard.lines.items heard.sends (comes_to c s message.now message.now.to)) }
         ensures said { IfOk result (λ heard. IfSome heard.end (IsSaid heard.lines.items)) }
+        ensures ends { IfOk result (λ heard. heard.end ≡ None → tells_by finals heard.lines.items ≡ false) }
         ensures itself { own self.new ≡ own self.old }
         ensures since { since self.old self.new };
 

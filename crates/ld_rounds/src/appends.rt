@@ -1,5 +1,5 @@
 // A sequencer is driven over payloads.
-ghost use Rattle.std.specs.Prelude.{◌≡◌, ◌≤◌, ◌⊎◌, ℕ, [], ◌∷◌, Bool, true, false, Option, None, IfOk, IfErr, IfSome, OnOk, OnErr, if◌then◌else◌, Some};
+ghost use Rattle.std.specs.Prelude.{◌≡◌, ◌≤◌, ◌<◌, ◌⊎◌, ◌&&◌, ℕ, [], ◌∷◌, Bool, true, false, Option, None, IfOk, IfErr, IfSome, MatchOption, OnOk, OnErr, if◌then◌else◌, Some};
 ghost use Rattle.ld_ids.specs.Set.{members};
 ghost use Rattle.ld_config.specs.declared.config.Config.{Config};
 ghost use Rattle.ld_config.specs.Bounds.{IsInBounds};
@@ -10,13 +10,13 @@ ghost use Rattle.ld_machine.specs.Step.{happens};
 ghost use Rattle.ld_bounds.specs.Sound.{IsSound};
 ghost use Rattle.ld_wire.specs.declared.fault.WireFault.{WireFault as FrameFault};
 ghost use Rattle.ld_dial.specs.Far.{Far};
-ghost use Rattle.ld_rounds.specs.Ends.{IsSaid};
+ghost use Rattle.ld_rounds.specs.Ends.{IsSaid, is_final, tells_by};
 ghost use Rattle.ld_rounds.specs.Acts.{IsActed, Own, driver};
 ghost use Rattle.ld_rounds.specs.Drives.{AreOfConfig, Holds, GoesOn, AllTaken, IsBroken, AreLater};
-ghost use Rattle.ld_rounds.specs.Rounds.{IsOne, IsBegun, IsRetry, MayRetry, Adds, AddsUntil, Prepares, PreparesUntil, Rounds, RoundsUntil, taken_of, tells_full};
+ghost use Rattle.ld_rounds.specs.Rounds.{IsOne, IsBegun, IsRetry, MayRetry, Adds, AddsUntil, Prepares, PreparesUntil, Rounds, RoundsUntil, IsDry, finds_full, finds_final, taken_of, tells_full};
 ghost use Rattle.ld_rounds.specs.Taking.{TookAppends};
-ghost use Rattle.ld_rounds.specs.Endings.{IsEnding, IsLater, IsOffAs};
-ghost use Rattle.ld_rounds.specs.Feeding.{IsInputEnding, IsAppendEnding, upcoming, WasOver, NextIs, SameBehind};
+ghost use Rattle.ld_rounds.specs.Endings.{IsEnding, IsLater, IsOffAs, EndsOff};
+ghost use Rattle.ld_rounds.specs.Feeding.{IsInputEnding, IsAppendEnding, upcoming, WasOver, NextIs, SameBehind, StaysAs, HasCome};
 ghost use Rattle.ld_rounds.specs.Input.{Input};
 ghost use Rattle.ld_rounds.specs.Queued.{are_empty};
 
@@ -39,7 +39,7 @@ pub trait Appends: Actor {
     ghost settled: { Self → Bool };
 
     /// The sequencer of the name numbers the payload and sends it, or writes why not. It ends the drive where it says so in
-    /// a line. After running out of memory it is of no use.
+    /// a line, and where a line tells that it was preempted, or that its numbers or the log's epochs are used up. After running out of memory it is of no use.
     fn append(
         &mut self,
         alloc: Global,
@@ -51,6 +51,7 @@ pub trait Appends: Actor {
             → IsActed (Self.stands self.new c) s appended.heard.lines.items appended.heard.sends (happens c s (Append name.now payload.now))) }
         ensures full { IfOk result (λ appended. appended.is_full ≡ tells_full appended.heard.lines.items) }
         ensures said { IfOk result (λ appended. IfSome appended.heard.end (IsSaid appended.heard.lines.items)) }
+        ensures ends { IfOk result (λ appended. appended.heard.end ≡ None → tells_by is_final appended.heard.lines.items ≡ false) }
         ensures itself { Self.own self.new ≡ Self.own self.old }
         ensures since { Self.since self.old self.new };
 
@@ -62,6 +63,7 @@ pub trait Appends: Actor {
         ensures retried { IfOk result (λ heard. (c : Config) (s : State) → IsInBounds c → IsSound c s → Self.stands self.old c s
             → IsActed (Self.stands self.new c) s heard.lines.items heard.sends (happens c s (Retry name.now))) }
         ensures said { IfOk result (λ heard. IfSome heard.end (IsSaid heard.lines.items)) }
+        ensures ends { IfOk result (λ heard. heard.end ≡ None → tells_by is_final heard.lines.items ≡ false) }
         ensures itself { Self.own self.new ≡ Self.own self.old }
         ensures since { Self.since self.old self.new };
 
@@ -80,7 +82,7 @@ fn add<A: Appends, O: Sink>(
     out: &mut O,
 ) -> Result<bool, Ended>
     ensures held { (own : Own) (c : Config) (first : ℕ) (s : State) (far : Far) → IsInBounds c → Holds (A.stands sequencer.old) c first s far queues.old
-        → GoesOn (driver name.now own) ⊥ (λ t es. IsOne (Append name.now payload.now) t es × IfOk result (λ full. taken_of c t es ≡ (if full then [] else payload.now ∷ []))) (λ e. IsBegun (Append name.now payload.now)) (A.stands sequencer.new) (λ now. now ≡ far) c first s queues.new (Some (O.written out.old)) (Some (O.written out.new)) result }
+        → GoesOn (driver name.now own) ⊥ (λ t es. IsOne (Append name.now payload.now) t es × IfOk result (λ full. (taken_of c t es ≡ (if full then [] else payload.now ∷ [])) × (full ≡ finds_full c t (Append name.now payload.now)) × (finds_final c t (Append name.now payload.now) ≡ false))) (λ e. IsBegun (Append name.now payload.now)) (A.stands sequencer.new) (λ now. now ≡ far) c first s queues.new (Some (O.written out.old)) (Some (O.written out.new)) result }
     ensures itself { A.own sequencer.new ≡ A.own sequencer.old }
     ensures since { A.since sequencer.old sequencer.new }
     ensures cause { IfErr result (IsEnding (O.faults out.old) (O.faults out.new) (Some (O.written out.old)) (Some (O.written out.new))) }
@@ -140,7 +142,7 @@ impl Feed {
     fn next<P: Payloads>(&mut self, alloc: Global, input: &mut P) -> Result<Option<Payload>, Ended>
         ensures gives { NextIs (upcoming self.old.held (P.coming input.old)) (upcoming self.new.held (P.coming input.new)) result }
         ensures none { IfOk result (λ next. self.new.held ≡ None) }
-        ensures on { IfOk result (λ next. IfSome next (λ payload. self.new.is_over ≡ self.old.is_over)) }
+        ensures on { IfOk result (λ next. MatchOption next (self.new.is_over ≡ true) (λ payload. self.new.is_over ≡ self.old.is_over)) }
         ensures stopped { OnErr result (self.new.is_over ≡ self.old.is_over) }
         ensures cause { IfErr result (IsInputEnding (upcoming self.old.held (P.coming input.old)) (P.faults input.old) (P.faults input.new)) }
         ensures later { P.faults input.old ≤ P.faults input.new }
@@ -160,9 +162,42 @@ impl Feed {
             Err(InputFault::NoMemory) => Err(Ended::NoMemory),
         }
     }
+
+    /// Waits for the next payload and holds it, unless one is held already or the input has ended.
+    fn fill<P: Payloads>(&mut self, alloc: Global, input: &mut P) -> Result<(), Ended>
+        ensures stays { OnOk result (StaysAs (upcoming self.old.held (P.coming input.old)) (upcoming self.new.held (P.coming input.new))) }
+        ensures refused { IfErr result (λ ended. NextIs (upcoming self.old.held (P.coming input.old)) (upcoming self.new.held (P.coming input.new)) (Err ended)) }
+        ensures over { (origin : Option Input) → SameBehind origin (upcoming self.old.held (P.coming input.old)) → WasOver origin self.old.is_over (upcoming self.old.held (P.coming input.old)) → WasOver origin self.new.is_over (upcoming self.new.held (P.coming input.new)) }
+        ensures filled { OnOk result (self.new.held ≡ None → self.new.is_over ≡ true) }
+        ensures cause { IfErr result (IsInputEnding (upcoming self.old.held (P.coming input.old)) (P.faults input.old) (P.faults input.new)) }
+        ensures later { P.faults input.old ≤ P.faults input.new }
+        ensures itself { P.identity input.new ≡ P.identity input.old }
+    {
+        if self.is_over {
+            return Ok(());
+        }
+        if self.held.is_some() {
+            return Ok(());
+        }
+        let next = self.next(alloc, input)?;
+        self.held = next;
+        Ok(())
+    }
+
+    /// Whether the next payload is had without a wait: it is held, or the input is ready.
+    fn is_ready<P: Payloads>(&self, input: &P) -> bool
+        ensures ready { P.ready input.now ≡ Some true → result ≡ true }
+        ensures unready { self.now.held ≡ None → P.ready input.now ≡ Some false → result ≡ false }
+    {
+        if self.held.is_some() {
+            return true;
+        }
+        input.is_ready()
+    }
 }
 
-/// Appends payloads, until one finds the window full or the input has ended. Where that was before, none is asked for.
+/// Appends payloads, until one finds the window full, none is ready, or the input has ended. Where that was before, none is
+/// asked for.
 fn add_all<A: Appends, P: Payloads, O: Sink>(
     alloc: Global,
     name: &Name,
@@ -173,9 +208,10 @@ fn add_all<A: Appends, P: Payloads, O: Sink>(
     out: &mut O,
 ) -> Result<(), Ended>
     ensures held { (own : Own) (c : Config) (first : ℕ) (s : State) (far : Far) → IsInBounds c → Holds (A.stands sequencer.old) c first s far queues.old
-        → GoesOn (driver name.now own) ⊥ (Adds name.now c (upcoming feed.old.held (P.coming input.old)) (upcoming feed.new.held (P.coming input.new))) (AddsUntil name.now c (upcoming feed.old.held (P.coming input.old))) (A.stands sequencer.new) (λ now. now ≡ far) c first s queues.new (Some (O.written out.old)) (Some (O.written out.new)) result }
+        → GoesOn (driver name.now own) ⊥ (Adds name.now c (IsDry feed.new.is_over (P.ready input.new)) (upcoming feed.old.held (P.coming input.old)) (upcoming feed.new.held (P.coming input.new))) (AddsUntil name.now c (upcoming feed.old.held (P.coming input.old))) (A.stands sequencer.new) (λ now. now ≡ far) c first s queues.new (Some (O.written out.old)) (Some (O.written out.new)) result }
     ensures over { (origin : Option Input) → SameBehind origin (upcoming feed.old.held (P.coming input.old)) → WasOver origin feed.old.is_over (upcoming feed.old.held (P.coming input.old)) → WasOver origin feed.new.is_over (upcoming feed.new.held (P.coming input.new)) }
     ensures behind { OnOk result (SameBehind (upcoming feed.old.held (P.coming input.old)) (upcoming feed.new.held (P.coming input.new))) }
+    ensures waits { feed.old.held ≡ None → P.ready input.old ≡ Some false → input.new ≡ input.old }
     ensures actor { A.own sequencer.new ≡ A.own sequencer.old }
     ensures since { A.since sequencer.old sequencer.new }
     ensures cause { IfErr result (IsAppendEnding (upcoming feed.old.held (P.coming input.old)) (P.faults input.old) (P.faults input.new) (O.faults out.old) (O.faults out.new) (Some (O.written out.old)) (Some (O.written out.new))) }
@@ -188,6 +224,9 @@ fn add_all<A: Appends, P: Payloads, O: Sink>(
         return Ok(());
     }
     'payloads: for _ in 0..u64::MAX {
+        if !feed.is_ready(input) {
+            return Ok(());
+        }
         let Some(payload) = feed.next(alloc, input)? else {
             return Ok(());
         };
@@ -196,10 +235,38 @@ fn add_all<A: Appends, P: Payloads, O: Sink>(
             return Ok(());
         }
     }
-    Ok(())
+    // So many are more than any window holds.
+    Err(Ended::NoMemory)
 }
 
-/// Before a round but the first, what is still wanted is sent again; then payloads are appended.
+/// Waits for the first payload; then payloads are appended.
+fn add_first<A: Appends, P: Payloads, O: Sink>(
+    alloc: Global,
+    name: &Name,
+    feed: &mut Feed,
+    input: &mut P,
+    sequencer: &mut A,
+    queues: &mut Queues,
+    out: &mut O,
+) -> Result<(), Ended>
+    ensures held { (own : Own) (c : Config) (first : ℕ) (s : State) (far : Far) → IsInBounds c → Holds (A.stands sequencer.old) c first s far queues.old
+        → GoesOn (driver name.now own) ⊥ (Adds name.now c (IsDry feed.new.is_over (P.ready input.new)) (upcoming feed.old.held (P.coming input.old)) (upcoming feed.new.held (P.coming input.new))) (AddsUntil name.now c (upcoming feed.old.held (P.coming input.old))) (A.stands sequencer.new) (λ now. now ≡ far) c first s queues.new (Some (O.written out.old)) (Some (O.written out.new)) result }
+    ensures over { (origin : Option Input) → SameBehind origin (upcoming feed.old.held (P.coming input.old)) → WasOver origin feed.old.is_over (upcoming feed.old.held (P.coming input.old)) → WasOver origin feed.new.is_over (upcoming feed.new.held (P.coming input.new)) }
+    ensures behind { OnOk result (SameBehind (upcoming feed.old.held (P.coming input.old)) (upcoming feed.new.held (P.coming input.new))) }
+    ensures actor { A.own sequencer.new ≡ A.own sequencer.old }
+    ensures since { A.since sequencer.old sequencer.new }
+    ensures cause { IfErr result (IsAppendEnding (upcoming feed.old.held (P.coming input.old)) (P.faults input.old) (P.faults input.new) (O.faults out.old) (O.faults out.new) (Some (O.written out.old)) (Some (O.written out.new))) }
+    ensures off { (off : Option FrameFault) → IfErr result (IsOffAs off) }
+    ensures input_later { P.faults input.old ≤ P.faults input.new }
+    ensures itself { P.identity input.new ≡ P.identity input.old }
+    ensures later { IsLater (O.faults out.old) (O.faults out.new) (Some (O.written out.old)) (Some (O.written out.new)) }
+{
+    feed.fill(alloc, input)?;
+    add_all(alloc, name, feed, input, sequencer, queues, out)
+}
+
+/// Before the first round a payload is waited for, and before each other one what is still wanted is sent again; then payloads
+/// are appended.
 fn prepare<A: Appends, P: Payloads, O: Sink>(
     alloc: Global,
     name: &Name,
@@ -211,9 +278,10 @@ fn prepare<A: Appends, P: Payloads, O: Sink>(
     out: &mut O,
 ) -> Result<(), Ended>
     ensures held { (own : Own) (c : Config) (first : ℕ) (s : State) (far : Far) → IsInBounds c → Holds (A.stands sequencer.old) c first s far queues.old
-        → GoesOn (driver name.now own) ⊥ (Prepares name.now c is_first (upcoming feed.old.held (P.coming input.old)) (upcoming feed.new.held (P.coming input.new))) (PreparesUntil name.now c is_first (upcoming feed.old.held (P.coming input.old))) (A.stands sequencer.new) (λ now. now ≡ far) c first s queues.new (Some (O.written out.old)) (Some (O.written out.new)) result }
+        → GoesOn (driver name.now own) ⊥ (Prepares name.now c (IsDry feed.new.is_over (P.ready input.new)) is_first (upcoming feed.old.held (P.coming input.old)) (upcoming feed.new.held (P.coming input.new))) (PreparesUntil name.now c is_first (upcoming feed.old.held (P.coming input.old))) (A.stands sequencer.new) (λ now. now ≡ far) c first s queues.new (Some (O.written out.old)) (Some (O.written out.new)) result }
     ensures over { (origin : Option Input) → SameBehind origin (upcoming feed.old.held (P.coming input.old)) → WasOver origin feed.old.is_over (upcoming feed.old.held (P.coming input.old)) → WasOver origin feed.new.is_over (upcoming feed.new.held (P.coming input.new)) }
     ensures behind { OnOk result (SameBehind (upcoming feed.old.held (P.coming input.old)) (upcoming feed.new.held (P.coming input.new))) }
+    ensures waits { is_first ≡ false → feed.old.held ≡ None → P.ready input.old ≡ Some false → input.new ≡ input.old }
     ensures actor { A.own sequencer.new ≡ A.own sequencer.old }
     ensures since { A.since sequencer.old sequencer.new }
     ensures cause { IfErr result (IsAppendEnding (upcoming feed.old.held (P.coming input.old)) (P.faults input.old) (P.faults input.new) (O.faults out.old) (O.faults out.new) (Some (O.written out.old)) (Some (O.written out.new))) }
@@ -223,7 +291,7 @@ fn prepare<A: Appends, P: Payloads, O: Sink>(
     ensures later { IsLater (O.faults out.old) (O.faults out.new) (Some (O.written out.old)) (Some (O.written out.new)) }
 {
     if is_first {
-        return add_all(alloc, name, feed, input, sequencer, queues, out);
+        return add_first(alloc, name, feed, input, sequencer, queues, out);
     }
     again(alloc, name, sequencer, queues, out)?;
     add_all(alloc, name, feed, input, sequencer, queues, out)
@@ -244,14 +312,16 @@ fn append_round<A: Appends, N: Nodes, P: Payloads, O: Sink>(
 ) -> Result<(), Ended>
     ensures held { (own : Own) → A.own sequencer.old ≡ own → (c : Config) (first : ℕ) (s : State) (far : Far) → IsInBounds c → AreOfConfig c (members set.now)
         → AllTaken (N.tells nodes.old c) far → Holds (A.stands sequencer.old) c first s far queues.old
-        → (N.silent nodes.new ≡ true) ⊎ GoesOn (driver name.now own) (IsBroken (N.faults nodes.old) (N.faults nodes.new) (N.endings nodes.old) (N.endings nodes.new)) (Rounds name.now c first (members set.now) is_first (upcoming feed.old.held (P.coming input.old)) (upcoming feed.new.held (P.coming input.new))) (RoundsUntil name.now c is_first (upcoming feed.old.held (P.coming input.old))) (A.stands sequencer.new) (AllTaken (N.tells nodes.new c)) c first s queues.new (Some (O.written out.old)) (Some (O.written out.new)) result }
+        → (N.silent nodes.new ≡ true) ⊎ GoesOn (driver name.now own) (IsBroken (N.faults nodes.old) (N.faults nodes.new) (N.endings nodes.old) (N.endings nodes.new)) (Rounds name.now c (IsDry feed.new.is_over (P.ready input.new)) first (members set.now) is_first (upcoming feed.old.held (P.coming input.old)) (upcoming feed.new.held (P.coming input.new))) (RoundsUntil name.now c is_first (upcoming feed.old.held (P.coming input.old))) (A.stands sequencer.new) (AllTaken (N.tells nodes.new c)) c first s queues.new (Some (O.written out.old)) (Some (O.written out.new)) result }
     ensures silent { N.silent nodes.old ≡ true → N.silent nodes.new ≡ true }
     ensures over { (origin : Option Input) → SameBehind origin (upcoming feed.old.held (P.coming input.old)) → WasOver origin feed.old.is_over (upcoming feed.old.held (P.coming input.old)) → WasOver origin feed.new.is_over (upcoming feed.new.held (P.coming input.new)) }
     ensures behind { OnOk result (SameBehind (upcoming feed.old.held (P.coming input.old)) (upcoming feed.new.held (P.coming input.new))) }
+    ensures waits { is_first ≡ false → feed.old.held ≡ None → P.ready input.old ≡ Some false → input.new ≡ input.old }
     ensures actor { A.own sequencer.new ≡ A.own sequencer.old }
     ensures since { A.since sequencer.old sequencer.new }
     ensures cause { IfErr result (IsAppendEnding (upcoming feed.old.held (P.coming input.old)) (P.faults input.old) (P.faults input.new) (O.faults out.old) (O.faults out.new) (Some (O.written out.old)) (Some (O.written out.new))) }
     ensures off { IfErr result (IsOffAs (N.off nodes.new)) }
+    ensures ended { N.off nodes.old ≡ None → EndsOff (N.off nodes.new) result }
     ensures input_later { P.faults input.old ≤ P.faults input.new }
     ensures itself { P.identity input.new ≡ P.identity input.old }
     ensures later { IsLater (O.faults out.old) (O.faults out.new) (Some (O.written out.old)) (Some (O.written out.new)) }
@@ -261,10 +331,101 @@ fn append_round<A: Appends, N: Nodes, P: Payloads, O: Sink>(
     round(alloc, set, sequencer, nodes, queues, out)
 }
 
+/// Before a payload is waited for the present node is let go, so that nobody waits for a client that waits itself.
+fn let_go<P: Payloads, N: Nodes>(feed: &Feed, input: &P, nodes: &mut N)
+    ensures rested { (c : Config) (far : Far) → N.tells nodes.old c far → N.tells nodes.new c far }
+    ensures silent { N.silent nodes.new ≡ N.silent nodes.old }
+    ensures off { N.off nodes.new ≡ N.off nodes.old }
+    ensures faults { N.faults nodes.new ≡ N.faults nodes.old }
+    ensures endings { N.endings nodes.new ≡ N.endings nodes.old }
+{
+    if !feed.is_ready(input) {
+        nodes.rest(0);
+    }
+}
+
+/// Whether it is done: every append is acknowledged, every epoch before its own is closed, no message waits, and the input has
+/// ended. Where it is so but for the input, the next payload is waited for and held.
+fn is_done<A: Appends, N: Nodes, P: Payloads>(
+    alloc: Global,
+    feed: &mut Feed,
+    input: &mut P,
+    sequencer: &A,
+    nodes: &mut N,
+    queues: &Queues,
+) -> Result<bool, Ended>
+    ensures done { IfOk result (λ done. done ≡ (A.settled sequencer.now && (are_empty queues.now && feed.new.is_over))) }
+    // Where all but the input is so, the input has ended then or a payload is held.
+    ensures asked { OnOk result ((A.settled sequencer.now && are_empty queues.now) ≡ true → feed.new.held ≡ None → feed.new.is_over ≡ true) }
+    ensures stays { OnOk result (StaysAs (upcoming feed.old.held (P.coming input.old)) (upcoming feed.new.held (P.coming input.new))) }
+    ensures refused { IfErr result (λ ended. NextIs (upcoming feed.old.held (P.coming input.old)) (upcoming feed.new.held (P.coming input.new)) (Err ended)) }
+    ensures over { (origin : Option Input) → SameBehind origin (upcoming feed.old.held (P.coming input.old)) → WasOver origin feed.old.is_over (upcoming feed.old.held (P.coming input.old)) → WasOver origin feed.new.is_over (upcoming feed.new.held (P.coming input.new)) }
+    // While something waits nothing is asked of the input.
+    ensures waits { (A.settled sequencer.now && are_empty queues.now) ≡ false → input.new ≡ input.old }
+    ensures cause { IfErr result (IsInputEnding (upcoming feed.old.held (P.coming input.old)) (P.faults input.old) (P.faults input.new)) }
+    ensures input_later { P.faults input.old ≤ P.faults input.new }
+    ensures itself { P.identity input.new ≡ P.identity input.old }
+    ensures rested { (c : Config) (far : Far) → N.tells nodes.old c far → N.tells nodes.new c far }
+    ensures silent { N.silent nodes.new ≡ N.silent nodes.old }
+    ensures off { N.off nodes.new ≡ N.off nodes.old }
+    ensures faults { N.faults nodes.new ≡ N.faults nodes.old }
+    ensures endings { N.endings nodes.new ≡ N.endings nodes.old }
+{
+    if !sequencer.is_settled() {
+        return Ok(false);
+    }
+    if !queues.are_empty() {
+        return Ok(false);
+    }
+    let_go(feed, input, nodes);
+    feed.fill(alloc, input)?;
+    Ok(feed.is_over)
+}
+
+/// One round, and whether it is done then.
+fn turn<A: Appends, N: Nodes, P: Payloads, O: Sink>(
+    alloc: Global,
+    set: &NodeSet,
+    name: &Name,
+    is_first: bool,
+    feed: &mut Feed,
+    input: &mut P,
+    sequencer: &mut A,
+    nodes: &mut N,
+    queues: &mut Queues,
+    out: &mut O,
+) -> Result<bool, Ended>
+    ensures held { (own : Own) → A.own sequencer.old ≡ own → (c : Config) (first : ℕ) (s : State) (far : Far) → IsInBounds c → AreOfConfig c (members set.now)
+        → AllTaken (N.tells nodes.old c) far → Holds (A.stands sequencer.old) c first s far queues.old
+        → (N.silent nodes.new ≡ true) ⊎ GoesOn (driver name.now own) (IsBroken (N.faults nodes.old) (N.faults nodes.new) (N.endings nodes.old) (N.endings nodes.new)) (Rounds name.now c (Unit {0}) first (members set.now) is_first (upcoming feed.old.held (P.coming input.old)) (upcoming feed.new.held (P.coming input.new))) (RoundsUntil name.now c is_first (upcoming feed.old.held (P.coming input.old))) (A.stands sequencer.new) (AllTaken (N.tells nodes.new c)) c first s queues.new (Some (O.written out.old)) (Some (O.written out.new)) result }
+    ensures done { IfOk result (λ done. done ≡ (A.settled sequencer.new && (are_empty queues.new && feed.new.is_over))) }
+    ensures asked { OnOk result ((A.settled sequencer.new && are_empty queues.new) ≡ true → feed.new.held ≡ None → feed.new.is_over ≡ true) }
+    ensures silent { N.silent nodes.old ≡ true → N.silent nodes.new ≡ true }
+    ensures over { (origin : Option Input) → SameBehind origin (upcoming feed.old.held (P.coming input.old)) → WasOver origin feed.old.is_over (upcoming feed.old.held (P.coming input.old)) → WasOver origin feed.new.is_over (upcoming feed.new.held (P.coming input.new)) }
+    ensures behind { OnOk result (SameBehind (upcoming feed.old.held (P.coming input.old)) (upcoming feed.new.held (P.coming input.new))) }
+    // Where none is ready as it begins, and something waits as it ends, nothing is asked of the input.
+    ensures waits { is_first ≡ false → feed.old.held ≡ None → P.ready input.old ≡ Some false → (A.settled sequencer.new && are_empty queues.new) ≡ false → input.new ≡ input.old }
+    ensures actor { A.own sequencer.new ≡ A.own sequencer.old }
+    ensures since { A.since sequencer.old sequencer.new }
+    ensures cause { IfErr result (IsAppendEnding (upcoming feed.old.held (P.coming input.old)) (P.faults input.old) (P.faults input.new) (O.faults out.old) (O.faults out.new) (Some (O.written out.old)) (Some (O.written out.new))) }
+    ensures off { IfErr result (IsOffAs (N.off nodes.new)) }
+    ensures ended { N.off nodes.old ≡ None → EndsOff (N.off nodes.new) result }
+    ensures input_later { P.faults input.old ≤ P.faults input.new }
+    ensures itself { P.identity input.new ≡ P.identity input.old }
+    ensures later { IsLater (O.faults out.old) (O.faults out.new) (Some (O.written out.old)) (Some (O.written out.new)) }
+    ensures counts { AreLater (N.faults nodes.old) (N.faults nodes.new) (N.endings nodes.old) (N.endings nodes.new) }
+{
+    append_round(
+        alloc, set, name, is_first, feed, input, sequencer, nodes, queues, out,
+    )?;
+    is_done(alloc, feed, input, sequencer, nodes, queues)
+}
+
 /// Drives a sequencer over payloads. Before each of so many rounds over the nodes of a set but the first, what is still
 /// wanted is sent again, and then payloads are appended until one finds the window full, which is the next round's first,
-/// or the input has ended. After each round it is seen whether it is done: the input has ended, every append is
-/// acknowledged, every epoch before its own is closed, and no message waits. True where it was.
+/// none is ready, or the input has ended. A payload is waited for only before the first round, and after a round by which
+/// every append is acknowledged, every epoch before its own is closed, and no message waits: no node is present meanwhile, and
+/// it is done where the input has ended. True where it was.
 ///
 /// It ends with `Preempted`, `EpochFull` or `Register` where a line says so, with `BadFrame` where what a node sent begins no
 /// frame, with `BadLine` at the first line with a syntax error, with `Read` where the input failed, with `Write` where the
@@ -290,15 +451,18 @@ pub fn append<A: Appends, N: Nodes, P: Payloads, O: Sink>(
         → AllTaken (N.tells nodes.old c) far → Holds (A.stands sequencer.old) c first s far queues.old
         → (N.silent nodes.new ≡ true) ⊎ TookAppends (driver name.now (A.own sequencer.old)) (IsBroken (N.faults nodes.old) (N.faults nodes.new) (N.endings nodes.old) (N.endings nodes.new)) (members set.now) (P.coming input.old) rounds (A.stands sequencer.new) (AllTaken (N.tells nodes.new c)) c first s queues.new (Some (O.written out.old)) (Some (O.written out.new)) result }
     ensures settled { IfOk result (λ done. done ≡ true → (A.settled sequencer.new ≡ true) × (are_empty queues.new ≡ true)) }
+    // Where all rounds were taken and all but the input is done, the input held a payload.
+    ensures undone { IfOk result (λ done. 0 < rounds → done ≡ false → (A.settled sequencer.new && are_empty queues.new) ≡ true → HasCome (P.coming input.old)) }
     ensures itself { P.identity input.new ≡ P.identity input.old }
     ensures actor { A.own sequencer.new ≡ A.own sequencer.old }
     ensures since { A.since sequencer.old sequencer.new }
     ensures cause { IfErr result (IsAppendEnding (P.coming input.old) (P.faults input.old) (P.faults input.new) (O.faults out.old) (O.faults out.new) (Some (O.written out.old)) (Some (O.written out.new))) }
     ensures off { IfErr result (IsOffAs (N.off nodes.new)) }
+    ensures ended { N.off nodes.old ≡ None → EndsOff (N.off nodes.new) result }
 {
     let mut feed = Feed::new();
     'rounds: for number in 0..rounds {
-        append_round(
+        if turn(
             alloc,
             set,
             name,
@@ -309,8 +473,7 @@ pub fn append<A: Appends, N: Nodes, P: Payloads, O: Sink>(
             nodes,
             queues,
             out,
-        )?;
-        if feed.is_over && sequencer.is_settled() && queues.are_empty() {
+        )? {
             return Ok(true);
         }
     }

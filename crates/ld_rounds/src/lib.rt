@@ -6,6 +6,7 @@ mod appends;
 mod ended;
 mod laws;
 mod output;
+mod pace;
 mod payloads;
 mod queue;
 mod queues;

@@ -1,5 +1,5 @@
 // Where payloads come from.
-ghost use Rattle.std.specs.Prelude.{◌≡◌, ◌≤◌, ℕ, Option, IfErr};
+ghost use Rattle.std.specs.Prelude.{◌≡◌, ◌≤◌, ℕ, Bool, Option, IfErr, IfSome};
 ghost use Rattle.ld_rounds.specs.Input.{Input, Gives, IsReadFault};
 
 use ld_ids::{NoMemory, Payload};
@@ -27,11 +27,18 @@ pub trait Payloads {
     /// Which one this is, so that one that was lent is known to have come back. Each call keeps it.
     ghost identity: { Self → ℕ };
 
-    /// Takes the next payload; none is at the end of the input. It is refused with `BadLine` where the next line has a syntax
+    /// Whether the next payload can be taken without a wait, where this tells it.
+    ghost ready: { Self → Option Bool };
+
+    /// Takes the next payload, and waits for it; none is at the end of the input. It is refused with `BadLine` where the next line has a syntax
     /// error, with `Read` where a read failed, and when out of memory.
     fn next(&mut self, alloc: Global) -> Result<Option<Payload>, InputFault>
         ensures gives { Gives (coming self.old) (coming self.new) result }
         ensures later { faults self.old ≤ faults self.new }
         ensures itself { identity self.new ≡ identity self.old }
         ensures cause { IfErr result (IsReadFault (faults self.old) (faults self.new)) };
+
+    /// Whether the next payload, or a part of it, has come, or the input has ended or failed.
+    fn is_ready(&self) -> bool
+        ensures { IfSome (ready self.now) (λ is_ready. result ≡ is_ready) };
 }

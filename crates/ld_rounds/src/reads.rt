@@ -1,5 +1,5 @@
 // A reader is driven until it is finished.
-ghost use Rattle.std.specs.Prelude.{◌≡◌, ◌⊎◌, ℕ, List, [], Option, Bool, true, IfOk, IfErr, IfSome, Some};
+ghost use Rattle.std.specs.Prelude.{◌≡◌, ◌<◌, ◌⊎◌, ℕ, List, [], Option, Bool, true, false, IfOk, IfErr, IfSome, OnOk, None, Some};
 ghost use Rattle.ld_ids.specs.Set.{members};
 ghost use Rattle.ld_config.specs.declared.config.Config.{Config};
 ghost use Rattle.ld_config.specs.Bounds.{IsInBounds};
@@ -15,8 +15,10 @@ ghost use Rattle.ld_rounds.specs.Acts.{IsActed, Own, driver};
 ghost use Rattle.ld_rounds.specs.Drives.{AreOfConfig, Holds, GoesOn, AllTaken, IsBroken, AreLater};
 ghost use Rattle.ld_rounds.specs.Rounds.{IsOne, IsBegun, IsPolled, IsReadRound, IsReadPart};
 ghost use Rattle.ld_rounds.specs.Taking.{TookReads};
-ghost use Rattle.ld_rounds.specs.Endings.{IsEnding, IsLater, IsOffAs};
+ghost use Rattle.ld_rounds.specs.Endings.{IsEnding, IsLater, IsOffAs, EndsOff};
+ghost use Rattle.ld_rounds.specs.Pace.{next_wait};
 
+use crate::pace::{Pace, is_same};
 use crate::{Actor, Ended, Heard, Queues, round, tell};
 use ld_dial::Nodes;
 use ld_ids::{Name, NoMemory, NodeSet};
@@ -41,6 +43,13 @@ pub trait Reads: Actor {
     /// Whether the one of the name is past its last number.
     fn is_finished(&self, name: &Name) -> bool
         ensures { result ≡ finished self.now name.now };
+
+    /// The next number of the one of the name, which rises as it writes what it read. None where it isn't there.
+    ghost next: { Self → List ℕ → Option ℕ };
+
+    /// The next number of the one of the name, and the one behind its last where it is finished. None where it isn't there.
+    fn next_of(&self, name: &Name) -> Option<u128>
+        ensures { result ≡ next self.now name.now };
 }
 
 /// The reader asks: its messages wait for their nodes.
@@ -109,6 +118,7 @@ fn read_round<R: Reads, N: Nodes, O: Sink>(
     ensures since { R.since reader.old reader.new }
     ensures cause { IfErr result (IsEnding (O.faults out.old) (O.faults out.new) (Some (O.written out.old)) (Some (O.written out.new))) }
     ensures off { IfErr result (IsOffAs (N.off nodes.new)) }
+    ensures ended { N.off nodes.old ≡ None → EndsOff (N.off nodes.new) result }
     ensures later { IsLater (O.faults out.old) (O.faults out.new) (Some (O.written out.old)) (Some (O.written out.new)) }
     ensures counts { AreLater (N.faults nodes.old) (N.faults nodes.new) (N.endings nodes.old) (N.endings nodes.new) }
 {
@@ -116,17 +126,52 @@ fn read_round<R: Reads, N: Nodes, O: Sink>(
     round(alloc, set, reader, nodes, queues, out)
 }
 
+/// One round, before which it is rested where the one before gave nothing.
+fn read_turn<R: Reads, N: Nodes, O: Sink>(
+    alloc: Global,
+    set: &NodeSet,
+    name: &Name,
+    is_sparing: bool,
+    pace: &mut Pace,
+    reader: &mut R,
+    nodes: &mut N,
+    queues: &mut Queues,
+    out: &mut O,
+) -> Result<(), Ended>
+    ensures held { (own : Own) → R.own reader.old ≡ own → (c : Config) (first : ℕ) (s : State) (far : Far) → IsInBounds c → AreOfConfig c (members set.now)
+        → AllTaken (N.tells nodes.old c) far → Holds (R.stands reader.old) c first s far queues.old
+        → (N.silent nodes.new ≡ true) ⊎ GoesOn (driver name.now own) (IsBroken (N.faults nodes.old) (N.faults nodes.new) (N.endings nodes.old) (N.endings nodes.new)) (IsReadRound is_sparing name.now c first (members set.now)) (λ e. IsReadPart is_sparing name.now c first (members set.now)) (R.stands reader.new) (AllTaken (N.tells nodes.new c)) c first s queues.new (Some (O.written out.old)) (Some (O.written out.new)) result }
+    ensures silent { N.silent nodes.old ≡ true → N.silent nodes.new ≡ true }
+    ensures itself { R.own reader.new ≡ R.own reader.old }
+    ensures since { R.since reader.old reader.new }
+    ensures cause { IfErr result (IsEnding (O.faults out.old) (O.faults out.new) (Some (O.written out.old)) (Some (O.written out.new))) }
+    ensures off { IfErr result (IsOffAs (N.off nodes.new)) }
+    ensures ended { N.off nodes.old ≡ None → EndsOff (N.off nodes.new) result }
+    ensures later { IsLater (O.faults out.old) (O.faults out.new) (Some (O.written out.old)) (Some (O.written out.new)) }
+    ensures counts { AreLater (N.faults nodes.old) (N.faults nodes.new) (N.endings nodes.old) (N.endings nodes.new) }
+    ensures pace { (pace.new.wait ≡ next_wait pace.old.is_idle pace.old.wait pace.old.longest) × (pace.new.longest ≡ pace.old.longest) }
+    ensures idle { OnOk result (pace.new.is_idle ≡ true → R.next reader.new name.now ≡ R.next reader.old name.now) }
+{
+    pace.rest(nodes);
+    let before = reader.next_of(name);
+    read_round(alloc, set, name, is_sparing, reader, nodes, queues, out)?;
+    pace.is_idle = is_same(before, reader.next_of(name));
+    Ok(())
+}
+
 /// Drives a reader: before each of so many rounds over the nodes of a set it polls, and after each it is seen whether it is
 /// finished. One that is sparing polls only before a round at whose start no message waits for a node of the set: what it
 /// asked at its last answer then still waits for nodes that had been visited before. True where it was finished; its lines
-/// are written as they come. It ends with `BadFrame` where what a node sent begins no frame, with `Write` where the output
-/// failed, and when out of memory.
+/// are written as they come. Between two rounds of which the first gave nothing it rests, with no node present: 100
+/// milliseconds, and after each further such round twice as long, up to `pause`; not at all where that is 0. It ends with
+/// `BadFrame` where what a node sent begins no frame, with `Write` where the output failed, and when out of memory.
 pub fn read<R: Reads, N: Nodes, O: Sink>(
     alloc: Global,
     set: &NodeSet,
     name: &Name,
     is_sparing: bool,
     rounds: u64,
+    pause: u32,
     reader: &mut R,
     nodes: &mut N,
     queues: &mut Queues,
@@ -142,15 +187,21 @@ pub fn read<R: Reads, N: Nodes, O: Sink>(
         → AllTaken (N.tells nodes.old c) far → Holds (R.stands reader.old) c first s far queues.old
         → (N.silent nodes.new ≡ true) ⊎ TookReads is_sparing (driver name.now (R.own reader.old)) (IsBroken (N.faults nodes.old) (N.faults nodes.new) (N.endings nodes.old) (N.endings nodes.new)) (members set.now) rounds (R.stands reader.new) (AllTaken (N.tells nodes.new c)) c first s queues.new (Some (O.written out.old)) (Some (O.written out.new)) result }
     ensures finished { IfOk result (λ done. done ≡ true → R.finished reader.new name.now ≡ true) }
+    ensures unfinished { IfOk result (λ done. 0 < rounds → done ≡ false → R.finished reader.new name.now ≡ false) }
     ensures itself { R.own reader.new ≡ R.own reader.old }
     ensures since { R.since reader.old reader.new }
     ensures cause { IfErr result (IsEnding (O.faults out.old) (O.faults out.new) (Some (O.written out.old)) (Some (O.written out.new))) }
     ensures off { IfErr result (IsOffAs (N.off nodes.new)) }
+    ensures ended { N.off nodes.old ≡ None → EndsOff (N.off nodes.new) result }
     ensures later { IsLater (O.faults out.old) (O.faults out.new) (Some (O.written out.old)) (Some (O.written out.new)) }
 {
-    'rounds: for _ in 0..rounds {
-        read_round(alloc, set, name, is_sparing, reader, nodes, queues, out)?;
-        if reader.is_finished(name) {
+    let mut pace = Pace::new(pause);
+    'rounds: for number in 0..rounds {
+        read_turn(
+            alloc, set, name, is_sparing, &mut pace, reader, nodes, queues, out,
+        )?;
+        let is_done = reader.is_finished(name);
+        if is_done {
             return Ok(true);
         }
     }

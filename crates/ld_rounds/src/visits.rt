@@ -1,5 +1,5 @@
 // A round: each node is visited, and what waits for it is sent.
-ghost use Rattle.std.specs.Prelude.{◌≡◌, ◌≢◌, ◌⊎◌, ◌∷◌, [], ℕ, List, Option, Err, Some, true, false, set, IsTrue, IfOk, IfErr, IfSome, MatchResult};
+ghost use Rattle.std.specs.Prelude.{◌≡◌, ◌≢◌, ◌⊎◌, ◌∷◌, [], ℕ, List, Option, None, Err, Some, true, false, set, IsTrue, IfOk, IfErr, IfSome, MatchResult};
 ghost use Rattle.ld_ids.specs.Set.{members};
 ghost use Rattle.ld_config.specs.declared.config.Config.{Config};
 ghost use Rattle.ld_config.specs.Bounds.{IsInBounds};
@@ -17,7 +17,7 @@ ghost use Rattle.ld_rounds.specs.Drives.{Driver, AreOfConfig, Holds, GoesOn, All
 ghost use Rattle.ld_rounds.specs.Rounds.{IsDelivered, IsReminded, RemindEnd, CalmEnd, Visiting, VisitEnd, IsVisit, AreVisits};
 ghost use Rattle.ld_rounds.specs.Acts.{IsDriverOf};
 ghost use Rattle.ld_rounds.specs.Ends.{IsSaid};
-ghost use Rattle.ld_rounds.specs.Endings.{IsEnding, IsLater, IsOffAs};
+ghost use Rattle.ld_rounds.specs.Endings.{IsEnding, IsLater, IsOffAs, EndsOff};
 ghost use Rattle.ld_rounds.specs.Output.{WritesFault};
 
 use crate::{Actor, Ended, Heard, Queues, write_lines};
@@ -107,6 +107,7 @@ fn listen<A: Actor, N: Nodes, O: Sink>(
     ensures since { A.since actor.old actor.new }
     ensures cause { IfErr result (IsEnding (O.faults out.old) (O.faults out.new) (Some (O.written out.old)) (Some (O.written out.new))) }
     ensures off { IfErr result (IsOffAs (N.off nodes.new)) }
+    ensures ended { N.off nodes.old ≡ None → EndsOff (N.off nodes.new) result }
     ensures later { IsLater (O.faults out.old) (O.faults out.new) (Some (O.written out.old)) (Some (O.written out.new)) }
     ensures counts { AreLater (N.faults nodes.old) (N.faults nodes.new) (N.endings nodes.old) (N.endings nodes.new) }
     ensures broken { IfOk result (λ on. on ≡ false → IsBroken (N.faults nodes.old) (N.faults nodes.new) (N.endings nodes.old) (N.endings nodes.new)) }
@@ -178,6 +179,7 @@ fn remind<A: Actor, N: Nodes>(
     ensures since { A.since actor.old actor.new }
     ensures cause { (before : ℕ) (now : ℕ) (old : Option (List ℕ)) (new : Option (List ℕ)) → IfErr result (IsEnding before now old new) }
     ensures off { IfErr result (IsOffAs (N.off nodes.new)) }
+    ensures ended { N.off nodes.old ≡ None → EndsOff (N.off nodes.new) result }
     ensures counts { AreLater (N.faults nodes.old) (N.faults nodes.new) (N.endings nodes.old) (N.endings nodes.new) }
     ensures broken { IfOk result (λ on. on ≡ false → IsBroken (N.faults nodes.old) (N.faults nodes.new) (N.endings nodes.old) (N.endings nodes.new)) }
 {
@@ -217,6 +219,7 @@ fn exchange<A: Actor, N: Nodes, O: Sink>(
     ensures since { A.since actor.old actor.new }
     ensures cause { IfErr result (IsEnding (O.faults out.old) (O.faults out.new) (Some (O.written out.old)) (Some (O.written out.new))) }
     ensures off { IfErr result (IsOffAs (N.off nodes.new)) }
+    ensures ended { N.off nodes.old ≡ None → EndsOff (N.off nodes.new) result }
     ensures later { IsLater (O.faults out.old) (O.faults out.new) (Some (O.written out.old)) (Some (O.written out.new)) }
     ensures counts { AreLater (N.faults nodes.old) (N.faults nodes.new) (N.endings nodes.old) (N.endings nodes.new) }
     ensures broken { IfOk result (λ on. on ≡ false → IsBroken (N.faults nodes.old) (N.faults nodes.new) (N.endings nodes.old) (N.endings nodes.new)) }
@@ -256,6 +259,7 @@ pub fn visit<A: Actor, N: Nodes, O: Sink>(
     ensures since { A.since actor.old actor.new }
     ensures cause { IfErr result (IsEnding (O.faults out.old) (O.faults out.new) (Some (O.written out.old)) (Some (O.written out.new))) }
     ensures off { IfErr result (IsOffAs (N.off nodes.new)) }
+    ensures ended { N.off nodes.old ≡ None → EndsOff (N.off nodes.new) result }
     ensures later { IsLater (O.faults out.old) (O.faults out.new) (Some (O.written out.old)) (Some (O.written out.new)) }
     ensures counts { AreLater (N.faults nodes.old) (N.faults nodes.new) (N.endings nodes.old) (N.endings nodes.new) }
     ensures emptied { IfOk result (λ _. queue_of queues.new node ≡ []) }
@@ -305,6 +309,7 @@ pub fn round<A: Actor, N: Nodes, O: Sink>(
     ensures since { A.since actor.old actor.new }
     ensures cause { IfErr result (IsEnding (O.faults out.old) (O.faults out.new) (Some (O.written out.old)) (Some (O.written out.new))) }
     ensures off { IfErr result (IsOffAs (N.off nodes.new)) }
+    ensures ended { N.off nodes.old ≡ None → EndsOff (N.off nodes.new) result }
     ensures later { IsLater (O.faults out.old) (O.faults out.new) (Some (O.written out.old)) (Some (O.written out.new)) }
     ensures counts { AreLater (N.faults nodes.old) (N.faults nodes.new) (N.endings nodes.old) (N.endings nodes.new) }
 {

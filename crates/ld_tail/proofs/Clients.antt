@@ -26,6 +26,7 @@ use Rattle.ld_clients.specs.Followers.{KnowTheirLogs}
 use Rattle.ld_clients.specs.Reads.{AreReaders, IsRead, opening}
 use Rattle.ld_rounds.specs.News.{is_answer}
 use Rattle.ld_rounds.specs.Acts.{IsActed}
+use Rattle.ld_rounds.specs.Ends.{tells_by}
 use Rattle.ld_rounds.specs.Drives.{own_lines}
 use Rattle.ld_tail.specs.Readers.{Follows}
 use Rattle.ld_rounds.proofs.Steps.{own-append}
@@ -151,3 +152,8 @@ opened_messages c fs new style name l from until o e done =
     let s : State = start c in
     let r = done s (subst (λ x. AreReaders c s x) (sym e) (none_are c s refl)) in
     subst AreMessages (sym (r.sends ∙ open_sends c s style name l from until)) tt
+
+-- no line of a reader ends its drive
+pub none_final : (ls : List Line) → tells_by (λ l. false) ls ≡ false
+none_final [] = refl
+none_final (l ∷ ls) = none_final ls

@@ -13,7 +13,7 @@ use Rattle.ld_msg.specs.declared.style.Style.{Style}
 use Rattle.ld_msg.specs.declared.style.Style.TheVariants as styles
 use Rattle.ld_msg.specs.Network.{Network}
 use Rattle.ld_msg.specs.Bounds.{Is64}
-use Rattle.ld_msg.specs.Reader.{is_single}
+use Rattle.ld_msg.specs.Reader.{is_single, is_finished}
 use Rattle.ld_msg.specs.Register.{Register}
 use Rattle.ld_reader.specs.Following.{Following}
 use Rattle.ld_machine.specs.Disk.{Node}
@@ -25,7 +25,7 @@ use Rattle.ld_dial.specs.Far.{Far}
 use Rattle.ld_clients.specs.Finished.{finished_in}
 use Rattle.ld_clients.specs.Followers.{readers_of}
 use Rattle.ld_clients.specs.Reads as readings
-use Rattle.ld_clients.proofs.Names.{find_each_some}
+use Rattle.ld_clients.proofs.Names.{find_each_some, find_each_none}
 use Rattle.ld_rounds.specs.declared.ended.Ended.{Ended}
 use Rattle.ld_rounds.specs.declared.ended.Ended.TheVariants as ends
 use Rattle.ld_rounds.specs.declared.actor.Heard.{Heard}
@@ -38,7 +38,7 @@ use Rattle.ld_rounds.specs.Rounds.{IsOne, IsBegun, AreReadRounds, ReadsUntil}
 use Rattle.ld_rounds.specs.Taking.{TookReads}
 use Rattle.ld_rounds.specs.Reaching.{Begins, Reached}
 use Rattle.ld_wire.specs.declared.fault.WireFault.{WireFault}
-use Rattle.ld_rounds.specs.Endings.{IsEnding, IsOffAs}
+use Rattle.ld_rounds.specs.Endings.{IsEnding, IsOffAs, EndsOff, EndedOff}
 use Rattle.ld_tail.specs.Looking.{IsLookEnd}
 use Rattle.ld_tail.specs.Readers.{Follows}
 use Rattle.ld_tail.specs.Tails.{HasNone, Wanted, opening, tailing, IsFinished, AreSteps, EndAt, IsTailed, IsTailEnd, DroveTail, end_of}
@@ -46,6 +46,7 @@ use Rattle.ld_tail.proofs.Clients.{none_are}
 use Rattle.ld_rounds.proofs.News.{no_news}
 use Rattle.ld_rounds.proofs.Driving.{acted_on}
 use Rattle.ld_rounds.proofs.Joining.{splits_join}
+use Rattle.ld_rounds.proofs.Feeding.{never}
 use Rattle.ld_rounds.proofs.Going.{NoFrame, halted, cut_by, goes_told, goes_as, goes_such, went_on, went_stops}
 
 pub follows_apart : (fs : List (List ℕ × Following)) (U : Register → Type 0) (c : Config) (s : State) (nodes : List (ℕ × Node)) (network : Network) → Follows fs U c s → Follows fs U c (record s { nodes = nodes; network = network })
@@ -107,6 +108,15 @@ finished_reader : (name : List ℕ) (fs : List (List ℕ × Following)) (o : Opt
 finished_reader name fs None h f s e = absurd cc
 finished_reader name fs (Some x) h f s e = record { reader = x.reader; there = ap (find_named name) e ∙ find_each_some (λ y. y.reader) name x fs h; finished = f }
 
+unfinished_reader : (name : List ℕ) (fs : List (List ℕ × Following)) (o : Option Following) → find_named name fs ≡ o → finished_in o ≡ false → (s : State) → s.readers ≡ readers_of fs → IsFinished name s → ⊥
+unfinished_reader name fs None h f s e i =
+    let wrong : None ≡ Some i.reader = sym (ap (find_named name) e ∙ find_each_none (λ y. y.reader) name fs h) ∙ i.there in
+    absurd cc
+unfinished_reader name fs (Some x) h f s e i =
+    let same : Some x.reader ≡ Some i.reader = sym (ap (find_named name) e ∙ find_each_some (λ y. y.reader) name x fs h) ∙ i.there in
+    let is : x.reader ≡ i.reader = cc in
+    never (is_finished x.reader) (ap is_finished is ∙ i.finished) f
+
 module _ (w : Wanted) (broken : Type 0) (most : ℕ) (tells : Config → Far → Type 0) (c : Config) (b : IsInBounds c) (s : State) (fs : List (List ℕ × Following)) (U : Register → Type 0) (qs : List (List Msg)) (old new : Option (List ℕ)) where
   abbrev at : State → List Event → Type 0
   at = EndAt w c s.network.count most
@@ -150,10 +160,13 @@ module _ (w : Wanted) (broken : Type 0) (most : ℕ) (tells : Config → Far →
         cut_by e (went_stops (tailing w) broken c s.network.count b P Q at A T s rs old mid new j v) (went_on (tailing w) broken c s.network.count b P Q at A (Follows fs U) T (AllTaken (tells c)) s rs qs old mid new j v) g
 
     -- the reader is opened, and driven
-    drove : (r : Result Bool Ended) → IfOk r (λ done. done ≡ true → finished_in (find_named w.name fs) ≡ true)
+    drove : (r : Result Bool Ended) → IfOk r (λ done. done ≡ true → finished_in (find_named w.name fs) ≡ true) → IfOk r (λ done. 0 < most → done ≡ false → finished_in (find_named w.name fs) ≡ false)
         → TookReads (is_single w.style) (tailing w) broken (members c.nodes) most (Follows fs U) (AllTaken (tells c)) c s.network.count v.moved.state qs mid new r → DroveTail w broken most tells U c s old new r
-    drove (Ok false) f g = let u = since most g in reached (AreSteps w c s.network.count most) (λ t. U t.register) u u.moved.holds.actor.register
-    drove (Ok true) f g =
+    drove (Ok false) f n g =
+        let u = since most g in
+        reached (AreSteps w c s.network.count most) (λ t. U t.register × (0 < most → IsFinished w.name t → ⊥)) u
+        (u.moved.holds.actor.register, λ some. unfinished_reader w.name fs (find_named w.name fs) refl (n some refl) u.moved.state u.moved.holds.actor.readers.readers)
+    drove (Ok true) f n g =
         let u = since g.rounds g.goes in
         record {
           rounds = g.rounds;
@@ -162,13 +175,13 @@ module _ (w : Wanted) (broken : Type 0) (most : ℕ) (tells : Config → Far →
           goes = reached (AreSteps w c s.network.count g.rounds) (λ t. U t.register × IsFinished w.name t) u
               (u.moved.holds.actor.register, finished_reader w.name fs (find_named w.name fs) refl (f refl) u.moved.state u.moved.holds.actor.readers.readers);
         }
-    drove (Err e) f g = stopped_by e (stops_since e g.rounds g.below g.goes)
+    drove (Err e) f n g = stopped_by e (stops_since e g.rounds g.below g.goes)
 
     -- where it isn't silent
-    pub drove_loud : (Y : Type 0) (r : Result Bool Ended) → IfOk r (λ done. done ≡ true → finished_in (find_named w.name fs) ≡ true)
+    pub drove_loud : (Y : Type 0) (r : Result Bool Ended) → IfOk r (λ done. done ≡ true → finished_in (find_named w.name fs) ≡ true) → IfOk r (λ done. 0 < most → done ≡ false → finished_in (find_named w.name fs) ≡ false)
         → Y ⊎ TookReads (is_single w.style) (tailing w) broken (members c.nodes) most (Follows fs U) (AllTaken (tells c)) c s.network.count v.moved.state qs mid new r → Y ⊎ DroveTail w broken most tells U c s old new r
-    drove_loud Y r f (inl y) = inl y
-    drove_loud Y r f (inr g) = inr (drove r f g)
+    drove_loud Y r f n (inl y) = inl y
+    drove_loud Y r f n (inr g) = inr (drove r f n g)
 
 -- ---- how it ends ----
 
@@ -253,3 +266,9 @@ module _ (damaged : ℕ → Type 0) (k n before now : ℕ) where
     pub tailed_loud : (Y : Type 0) (r : Result Bool Ended) (why : Ended) → IsLookEnd damaged k n why → Y ⊎ DroveTail w broken most tells U c s old new r → Y ⊎ IsTailed w broken most tells U c s old new (end_of r why)
     tailed_loud Y r why h (inl y) = inl y
     tailed_loud Y r why h (inr g) = inr (tailed r why h g)
+
+-- ---- what begins no frame ----
+
+pub end_ended : (off : Option WireFault) (r : Result Bool Ended) (why : Ended) → EndsOff off r → EndedOff off (end_of r why)
+end_ended None r why h = tt
+end_ended (Some fault) r why h = ap (λ (x : Result Bool Ended). end_of x why) h

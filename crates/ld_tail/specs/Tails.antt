@@ -63,10 +63,10 @@ pub record AreSome (w : Wanted) (c : Config) (first most : ℕ) (s : State) (es 
 abbrev pub EndAt : Wanted → Config → ℕ → ℕ → State → List Event → Type 0
 EndAt w c first most s es = IsBegun (opening w) s es ⊎ AreSome w c first most s es
 
--- by those steps, with these rounds; where it is done its reader is finished. It never ends with a frame that is off. Where it can't go on the last step may have been done in part
+-- by those steps, with these rounds; where it is done its reader is finished, and where all rounds were taken it isn't. It never ends with a frame that is off. Where it can't go on the last step may have been done in part
 abbrev pub IsTailed : Wanted → Type 0 → ℕ → (Config → Far → Type 0) → (Register → Type 0) → Config → State → Option (List ℕ) → Option (List ℕ) → Ended → Type 0
 IsTailed w broken rounds tells registered c s old new ends.Done = Turned 1 (rounds + 1) (λ n. Reached (tailing w) broken (AreSteps w c s.network.count n) (tells c) c s old new (λ t. registered t.register × IsFinished w.name t))
-IsTailed w broken rounds tells registered c s old new ends.Rounds = Reached (tailing w) broken (AreSteps w c s.network.count rounds) (tells c) c s old new (λ t. registered t.register)
+IsTailed w broken rounds tells registered c s old new ends.Rounds = Reached (tailing w) broken (AreSteps w c s.network.count rounds) (tells c) c s old new (λ t. registered t.register × (0 < rounds → IsFinished w.name t → ⊥))
 IsTailed w broken rounds tells registered c s old new (ends.BadFrame fault) = ⊥
 IsTailed w broken rounds tells registered c s old new _ = Stopped (tailing w) broken (EndAt w c s.network.count rounds) c s old new
 

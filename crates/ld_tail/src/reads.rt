@@ -165,6 +165,7 @@ impl<G: Register> Reading<G> {
 }
 
 impl<G: Register> Actor for Reading<G> {
+    ghost use Rattle.std.specs.Prelude.{false};
     ghost use Rattle.ld_tail.specs.Looking.{looked_here, looked_on};
 
     ghost stands = { λ a c s. Follows a.readers (G.tells a.register) c s };
@@ -180,6 +181,8 @@ impl<G: Register> Actor for Reading<G> {
     ghost since_on = { λ a b c p q. looked_on a.end b.end c.end (G.told a.register) (G.told b.register) (G.told c.register) (G.holds a.register) (G.holds b.register) (G.holds c.register) (G.may_hold a.register) (G.may_hold b.register) (G.may_hold c.register) (G.faults a.register) (G.faults b.register) (G.faults c.register) (G.identity a.register) (G.identity b.register) (G.identity c.register) p q };
 
     ghost hears = { λ a m. IsOf a.log m };
+
+    ghost finals = { λ _. false };
 
     fn is_for(&self, message: &Msg) -> bool {
         let is_here = match &message.to {
@@ -227,7 +230,11 @@ impl<G: Register> Actor for Reading<G> {
 }
 
 impl<G: Register> Reads for Reading<G> {
+    ghost use Rattle.std.specs.Prelude.{option_map};
+
     ghost finished = { λ a name. finished_in (find_named name a.readers) };
+
+    ghost next = { λ a name. option_map (λ f. f.reader.next) (find_named name a.readers) };
 
     fn poll(&mut self, alloc: Global, name: &Name) -> Result<Heard, NoMemory> {
         let None = self.end else {
@@ -244,5 +251,9 @@ impl<G: Register> Reads for Reading<G> {
 
     fn is_finished(&self, name: &Name) -> bool {
         self.readers.is_finished(name)
+    }
+
+    fn next_of(&self, name: &Name) -> Option<u128> {
+        self.readers.next_of(name)
     }
 }

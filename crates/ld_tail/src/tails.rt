@@ -6,7 +6,7 @@ ghost use Rattle.ld_msg.specs.Register.{Register as Contents};
 ghost use Rattle.ld_machine.specs.State.{State};
 ghost use Rattle.ld_dial.specs.Far.{Far};
 ghost use Rattle.ld_rounds.specs.Drives.{IsBroken};
-ghost use Rattle.ld_rounds.specs.Endings.{IsEnding, IsOffAs};
+ghost use Rattle.ld_rounds.specs.Endings.{IsEnding, IsOffAs, EndsOff, IsEndedOff};
 ghost use Rattle.ld_rounds.specs.Reaching.{Begins};
 ghost use Rattle.ld_tail.specs.Looking.{HasLooked};
 ghost use Rattle.ld_tail.specs.Tails.{HasNone, IsTailed, IsTailEnd, DroveTail, end_of};
@@ -42,6 +42,7 @@ fn drive<G: Register, N: Nodes, O: Sink>(
     until: Lsn,
     style: Style,
     rounds: u64,
+    pause: u32,
     reading: &mut Reading<G>,
     nodes: &mut N,
     out: &mut O,
@@ -56,6 +57,7 @@ fn drive<G: Register, N: Nodes, O: Sink>(
     ensures damaged { (place : ℕ) → reading.new.end ≡ Some (Ended.Register (Refusal.Damaged place)) → G.told reading.old.register → G.damaged reading.old.register place }
     ensures cause { IfErr result (IsEnding (O.faults out.old) (O.faults out.new) (Some (O.written out.old)) (Some (O.written out.new))) }
     ensures off { IfErr result (IsOffAs (N.off nodes.new)) }
+    ensures ended { N.off nodes.old ≡ None → EndsOff (N.off nodes.new) result }
 {
     let Ok(_) = reading.look(alloc, from.epoch()) else {
         return Err(Ended::NoMemory);
@@ -73,6 +75,7 @@ fn drive<G: Register, N: Nodes, O: Sink>(
         name,
         is_single(style),
         rounds,
+        pause,
         reading,
         nodes,
         &mut queues,
@@ -96,8 +99,9 @@ fn end_of(driven: Result<bool, Ended>, why: Ended) -> Ended
 /// Tails a log: the register is looked at, a new reader of the name is opened from a number to another, both included, that
 /// reads in this style, and so many rounds over the configuration's nodes are driven. It polls before each of them; a reader
 /// of one copy polls only before a round at whose start no message waits for a node, since what waits is sent in that round
-/// anyhow, and a poll would have the same pages sent once more. Its lines are written as they come. The register is given
-/// back.
+/// anyhow, and a poll would have the same pages sent once more. Its lines are written as they come. Between two rounds of which
+/// the first gave nothing it rests, with no node present: 100 milliseconds, and after each further such round twice as long, up
+/// to `pause`; not at all where that is 0. The register is given back.
 ///
 /// A node may have missed that an epoch was closed, and then it tells the reader to wait for numbers of that epoch, though it
 /// has them. So a node that tells the reader to wait for a number of a closed epoch is told at once what the register says of
@@ -117,6 +121,7 @@ pub fn tail<G: Register, N: Nodes, O: Sink>(
     until: Lsn,
     style: Style,
     rounds: u64,
+    pause: u32,
     register: G,
     nodes: &mut N,
     out: &mut O,
@@ -131,8 +136,9 @@ pub fn tail<G: Register, N: Nodes, O: Sink>(
     ensures tailed { (s : State) (far : Far) → N.tells nodes.old config.now far → Begins (HasNone (G.tells register)) config.now s far
         → (N.silent nodes.new ≡ true) ⊎ IsTailed (record { name = name; log = log; from = from; until = until; style = style }) (IsBroken (N.faults nodes.old) (N.faults nodes.new) (N.endings nodes.old) (N.endings nodes.new)) rounds (N.tells nodes.new) (G.tells result.1) config.now s (Some (O.written out.old)) (Some (O.written out.new)) result.0 }
     ensures cause { IsTailEnd (λ place. G.told register → G.damaged register place) (G.faults register) (G.faults result.1) (O.faults out.old) (O.faults out.new) result.0 }
-    // It ends with `BadFrame` only by the fault that the nodes tell.
+    // It ends with `BadFrame` only by the fault that the nodes tell, and where they tell one it ends by that.
     ensures off { IsOffAs (N.off nodes.new) result.0 }
+    ensures ended { IsEndedOff (N.off nodes.old) (N.off nodes.new) result.0 }
     // Looks change nothing of the register.
     ensures told { G.told register → G.told result.1 }
     ensures same { (c : Contents) → G.may_hold result.1 c → G.may_hold register c }
@@ -151,6 +157,7 @@ pub fn tail<G: Register, N: Nodes, O: Sink>(
         until,
         style,
         rounds,
+        pause,
         &mut reading,
         nodes,
         out,

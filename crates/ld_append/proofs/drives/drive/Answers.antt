@@ -17,8 +17,9 @@ use Rattle.ld_append.specs.Acting.{Serves, takes, MayCrowd, HoldsSome, LacksRoom
 use Rattle.ld_append.proofs.Appending.{begun, start_as, stopped_append, drove_loud}
 use Rattle.ld_append.proofs.Ending.{rounds_cause}
 use Rattle.ld_append.proofs.Keeping.{refused_since}
-use Rattle.ld_rounds.specs.Endings.{IsOffAs}
-use Rattle.ld_append.proofs.Rounding.{round_cause, round_off, round_refused, round_loud}
+use Rattle.ld_rounds.specs.Endings.{IsOffAs, EndsOff}
+use Rattle.ld_rounds.proofs.Endings.{none_off}
+use Rattle.ld_append.proofs.Rounding.{round_cause, round_off, round_ends, round_refused, round_loud}
 use Rattle.ld_append.specs.Refusing.{round_end}
 use Rattle.ld_append.proofs.drives.drive.Goals as goal
 
@@ -138,3 +139,14 @@ pub returns-clause-off : goal.returns-clause-off
 returns-clause-off g c =
     let off = g.N.Nodes.off c.append-driven.new.nodes in
     subst (λ (x : Result Bool Ended). IfErr x (IsOffAs off)) (sym c.round_end.ensures) (round_off off c.end.result c.append-driven.result c.append-driven.ensures.off)
+
+pub returns-in_default-clause-ended : goal.returns-in_default-clause-ended
+returns-in_default-clause-ended g c = λ none. none_off _ _ none
+
+pub returns-in_err-start-clause-ended : goal.returns-in_err-start-clause-ended
+returns-in_err-start-clause-ended g c = λ none. none_off _ _ none
+
+pub returns-clause-ended : goal.returns-clause-ended
+returns-clause-ended g c =
+    let off = g.N.Nodes.off c.append-driven.new.nodes in
+    λ none. subst (λ (x : Result Bool Ended). EndsOff off x) (sym c.round_end.ensures) (round_ends off c.end.result c.append-driven.result (c.append-driven.ensures.ended none))

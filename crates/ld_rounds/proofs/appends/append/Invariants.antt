@@ -1,10 +1,11 @@
-use Rattle.std.proofs.Common.{◌≡◌, ◌≤◌, ◌⊎◌, ℕ, true, Some}
+use Rattle.std.proofs.Common.{◌≡◌, ◌≤◌, ◌⊎◌, ℕ, true, Some, None, ◌<◌, ◌&&◌, false}
 use Rattle.ld_config.specs.declared.config.Config.{Config}
 use Rattle.ld_config.specs.Bounds.{IsInBounds}
 use Rattle.ld_machine.specs.State.{State}
 use Rattle.ld_dial.specs.Far.{Far}
 use Rattle.ld_rounds.specs.Endings.{IsLater}
 use Rattle.ld_ids.specs.Set.{members}
+use Rattle.ld_rounds.specs.Queued.{are_empty}
 use Rattle.ld_rounds.specs.Acts.{driver}
 use Rattle.ld_rounds.specs.Drives.{AreOfConfig, AllTaken, IsBroken, AreLater, Holds, Went}
 use Rattle.ld_rounds.specs.Rounds.{Both, AreAppendRounds, Feeds}
@@ -23,3 +24,6 @@ invariant-rounds g l =
     × SameBehind (g.P.Payloads.coming l.fn.input) (upcoming l.feed.held (g.P.Payloads.coming l.input))
     × (g.A.Actor.own l.sequencer ≡ g.A.Actor.own l.fn.sequencer)
     × g.A.Actor.since l.fn.sequencer l.sequencer
+    × (g.N.Nodes.off l.fn.nodes ≡ None → g.N.Nodes.off l.nodes ≡ None)
+    × (0 < l.number → (g.A.Appends.settled l.sequencer && (are_empty l.queues && l.feed.is_over)) ≡ false)
+    × (0 < l.number → (g.A.Appends.settled l.sequencer && are_empty l.queues) ≡ true → l.feed.held ≡ None → l.feed.is_over ≡ true)

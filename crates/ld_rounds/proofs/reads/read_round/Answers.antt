@@ -6,7 +6,7 @@ use Rattle.ld_rounds.specs.Drives.{AllTaken, IsBroken}
 use Rattle.ld_rounds.specs.Rounds.{CalmEnd, AreVisits, IsPolled, IsReadRound, IsReadPart}
 use Rattle.ld_rounds.proofs.Joining.{splits_join, part_begun}
 use Rattle.ld_rounds.proofs.Visiting.{drives_on}
-use Rattle.ld_rounds.proofs.Endings.{later_on, cause_since}
+use Rattle.ld_rounds.proofs.Endings.{later_on, cause_since, none_off}
 use Rattle.ld_rounds.proofs.Going.{each_end, went_as, goes_such, then_on}
 use Rattle.ld_rounds.proofs.reads.read_round.Goals as goal
 
@@ -48,3 +48,9 @@ pub returns-in_err-begin-clause-off : goal.returns-in_err-begin-clause-off
 returns-in_err-begin-clause-off g c =
     let p = err_from_is_err_and c.from_residual.result c.from_residual.ensures.1 in
     rw (p.1, p.2) (c.in_err-begin.ensures.off (g.N.Nodes.off c.args.nodes.now))
+
+pub returns-in_err-begin-clause-ended : goal.returns-in_err-begin-clause-ended
+returns-in_err-begin-clause-ended g c = λ none. none_off _ _ none
+
+pub returns-clause-ended : goal.returns-clause-ended
+returns-clause-ended g c = c.round.ensures.ended

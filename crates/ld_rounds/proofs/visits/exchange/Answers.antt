@@ -2,6 +2,7 @@ use Rattle.std.proofs.Common.{◌≡◌, ◌⊎◌, ◌∙◌, sym, subst, inl, 
 use Rattle.ld_msg.specs.declared.msg.Msg.{Msg}
 use Rattle.ld_rounds.specs.Drives.{IsBroken, Went, GoesOn, WithNode, Answering}
 use Rattle.ld_rounds.specs.Rounds.{Visiting, VisitEnd}
+use Rattle.ld_rounds.proofs.Endings.{none_off}
 use Rattle.ld_rounds.proofs.News.{first_waits}
 use Rattle.ld_rounds.proofs.Going.{visiting_on}
 use Rattle.ld_rounds.proofs.Visiting.{handed_on, handed_quietly, unsent, sent_later, broken_since}
@@ -43,3 +44,12 @@ returns-in-Err-clause-since g c = g.met.A.Actor.since_here c.args.actor.now
 
 pub returns-then-not-is_answered-clause-since : goal.returns-then-not-is_answered-clause-since
 returns-then-not-is_answered-clause-since g c = g.met.A.Actor.since_here c.args.actor.now
+
+pub returns-in-Err-clause-ended : goal.returns-in-Err-clause-ended
+returns-in-Err-clause-ended g c = λ none. none_off _ _ (c.send.ensures.off ∙ none)
+
+pub returns-then-not-is_answered-clause-ended : goal.returns-then-not-is_answered-clause-ended
+returns-then-not-is_answered-clause-ended g c = λ none. none_off _ _ (c.send.ensures.off ∙ none)
+
+pub returns-clause-ended : goal.returns-clause-ended
+returns-clause-ended g c = λ none. c.listen.ensures.ended (c.send.ensures.off ∙ none)

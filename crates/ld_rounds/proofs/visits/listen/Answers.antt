@@ -1,10 +1,12 @@
-use Rattle.std.proofs.Common.{◌≡◌, [], sym, subst, inr, Ok, Err, Option, None, Some, Bool, true}
+use Rattle.std.proofs.Common.{◌≡◌, [], sym, subst, inr, Ok, Err, Option, None, Some, Bool, true, ◌∙◌}
 use Rattle.std.proofs.lemmas.Result.{err_from_is_err_and}
 use Rattle.ld_msg.specs.declared.msg.Msg.{Msg}
 use Rattle.ld_dial.specs.Far.{Far, Receives, IsNext, CountsEnding}
 use Rattle.ld_rounds.specs.Telling.{AnswersOnce}
+use Rattle.ld_rounds.specs.Endings.{EndsOff}
 use Rattle.ld_rounds.specs.Drives.{IsBroken, WithNode, GoesOn}
 use Rattle.ld_rounds.specs.Rounds.{IsDelivered, IsReminded, RemindEnd, Visiting, VisitEnd}
+use Rattle.ld_rounds.proofs.Endings.{none_off, missed_off}
 use Rattle.ld_rounds.proofs.Joining.{reminded_joins}
 use Rattle.ld_rounds.proofs.Going.{each_end, went_here, went_as, goes_as, then_on}
 use Rattle.ld_rounds.proofs.Visiting.{its_own, only_one, drives_on, takes_is, ignored, unheard}
@@ -95,3 +97,18 @@ pub returns-in_err-take-clause-off : goal.returns-in_err-take-clause-off
 returns-in_err-take-clause-off g c =
     let p = err_from_is_err_and c.from_residual.result c.from_residual.ensures.1 in
     rw (p.1, p.2) (c.in_err-take.ensures.off (g.N.Nodes.off c.receive.new.self))
+
+pub returns-in-Err-clause-ended : goal.returns-in-Err-clause-ended
+returns-in-Err-clause-ended g c = λ none. subst (λ r. EndsOff (g.N.Nodes.off c.receive.new.self) r) (sym c.missed.ensures.value) (missed_off (g.N.Nodes.off c.args.nodes.now) (g.N.Nodes.off c.receive.new.self) c.in-Err.fault c.in-Err.ensures.off none)
+
+pub returns-in_default-clause-ended : goal.returns-in_default-clause-ended
+returns-in_default-clause-ended g c = λ none. none_off _ _ (c.in-Ok.ensures.off ∙ none)
+
+pub returns-then-not-is_its-clause-ended : goal.returns-then-not-is_its-clause-ended
+returns-then-not-is_its-clause-ended g c = λ none. none_off _ _ (c.in-Ok.ensures.off ∙ none)
+
+pub returns-in_err-take-clause-ended : goal.returns-in_err-take-clause-ended
+returns-in_err-take-clause-ended g c = λ none. none_off _ _ (c.in-Ok.ensures.off ∙ none)
+
+pub returns-clause-ended : goal.returns-clause-ended
+returns-clause-ended g c = λ none. c.remind.ensures.ended (c.in-Ok.ensures.off ∙ none)

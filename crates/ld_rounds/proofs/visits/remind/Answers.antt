@@ -3,6 +3,7 @@ use Rattle.std.specs.Prelude.{IfOk}
 use Rattle.ld_rounds.specs.Drives.{IsBroken, WithNode, GoesOn}
 use Rattle.ld_rounds.specs.Reminding.{reminded}
 use Rattle.ld_rounds.specs.Rounds.{IsReminded, RemindEnd}
+use Rattle.ld_rounds.proofs.Endings.{none_off}
 use Rattle.ld_rounds.proofs.Going.{halted, went_by}
 use Rattle.ld_rounds.proofs.Visiting.{drives_on, later_since, sent_later}
 use Rattle.ld_rounds.proofs.Reminding.{Open, open_first, open_last, open_next, open_off, reminder_to, broken_off}
@@ -15,6 +16,7 @@ epochs-init g c = (
   (omega arith, omega arith),
   refl,
   g.met.A.Actor.since_here c.args.actor.now,
+  refl,
 )
 
 pub returns-in_default-clause-held : goal.returns-in_default-clause-held
@@ -116,6 +118,7 @@ epochs-preserved g c = (
   later_since _ _ _ _ _ _ c.epochs.invariant.2 (sent_later _ _ _ _ c.send.result c.send.ensures.counts c.send.ensures.endings),
   c.reminder.ensures.itself ∙ c.epochs.invariant.3,
   g.met.A.Actor.since_on c.args.actor.now c.epochs.actor c.reminder.new.self c.epochs.invariant.4 c.reminder.ensures.since,
+  c.send.ensures.off ∙ c.epochs.invariant.5,
 )
 
 pub returns-clause-held : goal.returns-clause-held
@@ -138,3 +141,15 @@ returns-clause-since g c = c.epochs.invariant.4
 
 pub returns-clause-counts : goal.returns-clause-counts
 returns-clause-counts g c = c.epochs.invariant.2
+
+pub returns-in_default-clause-ended : goal.returns-in_default-clause-ended
+returns-in_default-clause-ended g c = λ none. none_off _ _ (c.epochs.invariant.5 ∙ none)
+
+pub returns-in_default-next-clause-ended : goal.returns-in_default-next-clause-ended
+returns-in_default-next-clause-ended g c = λ none. none_off _ _ (c.epochs.invariant.5 ∙ none)
+
+pub returns-clause-ended : goal.returns-clause-ended
+returns-clause-ended g c = λ none. none_off _ _ (c.epochs.invariant.5 ∙ none)
+
+pub returns-in-Err-clause-ended : goal.returns-in-Err-clause-ended
+returns-in-Err-clause-ended g c = λ none. none_off _ _ (c.send.ensures.off ∙ (c.epochs.invariant.5 ∙ none))

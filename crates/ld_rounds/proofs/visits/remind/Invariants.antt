@@ -21,3 +21,4 @@ invariant-epochs g l =
     × AreLater (g.N.Nodes.faults l.fn.nodes) (g.N.Nodes.faults l.nodes) (g.N.Nodes.endings l.fn.nodes) (g.N.Nodes.endings l.nodes)
     × (g.A.Actor.own l.actor ≡ g.A.Actor.own l.fn.actor)
     × g.A.Actor.since l.fn.actor l.actor
+    × (g.N.Nodes.off l.nodes ≡ g.N.Nodes.off l.fn.nodes)

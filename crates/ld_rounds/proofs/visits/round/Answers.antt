@@ -10,7 +10,7 @@ use Rattle.ld_rounds.specs.Drives.{AllTaken, IsBroken, Went}
 use Rattle.ld_rounds.specs.Rounds.{VisitEnd, CalmEnd, IsVisit, AreVisits}
 use Rattle.ld_rounds.proofs.Joining.{Joins, visits_push, visits_part}
 use Rattle.ld_rounds.proofs.Visiting.{drives_on, broken_since, broken_until, later_since}
-use Rattle.ld_rounds.proofs.Endings.{later_here, later_on, ending_since}
+use Rattle.ld_rounds.proofs.Endings.{later_here, later_on, ending_since, none_off, goes_unoff}
 use Rattle.ld_rounds.proofs.Going.{went_here, then_on}
 use Rattle.ld_rounds.proofs.visits.round.Goals as goal
 
@@ -29,6 +29,7 @@ nodes-init g c = (
   omega arith,
   refl,
   g.met.A.Actor.since_here c.args.actor.now,
+  λ none. none,
 )
 
 pub returns-in_err-visit-clause-held : goal.returns-in_err-visit-clause-held
@@ -77,6 +78,7 @@ nodes-preserved g c =
       omega arith,
       c.in_ok-visit.ensures.itself ∙ c.nodes.invariant.5,
       g.met.A.Actor.since_on c.args.actor.now c.nodes.actor c.visit.new.actor c.nodes.invariant.6 c.in_ok-visit.ensures.since,
+      λ none. goes_unoff _ tt (c.in_ok-visit.ensures.ended (c.nodes.invariant.7 none)),
     )
 
 pub returns-in_err-visit-clause-counts : goal.returns-in_err-visit-clause-counts
@@ -91,3 +93,11 @@ returns-clause-held g c who is k first s far b there told h =
 
 pub returns-in_err-visit-clause-since : goal.returns-in_err-visit-clause-since
 returns-in_err-visit-clause-since g c = g.met.A.Actor.since_on c.args.actor.now c.nodes.actor c.visit.new.actor c.nodes.invariant.6 c.in_err-visit.ensures.since
+
+pub returns-in_err-visit-clause-ended : goal.returns-in_err-visit-clause-ended
+returns-in_err-visit-clause-ended g c =
+    let p = err_from_is_err_and c.from_residual.result c.from_residual.ensures.1 in
+    λ none. rw (p.1, p.2) (c.in_err-visit.ensures.ended (c.nodes.invariant.7 none))
+
+pub returns-clause-ended : goal.returns-clause-ended
+returns-clause-ended g c = λ none. none_off _ _ (c.nodes.invariant.7 none)

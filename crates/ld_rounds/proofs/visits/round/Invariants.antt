@@ -1,4 +1,4 @@
-use Rattle.std.proofs.Common.{◌≡◌, ◌⊎◌, ◌≤◌, ◌-◌, ℕ, true, length, take, Some}
+use Rattle.std.proofs.Common.{◌≡◌, ◌⊎◌, ◌≤◌, ◌-◌, ℕ, true, length, take, Some, None}
 use Rattle.ld_ids.specs.Set.{members}
 use Rattle.ld_config.specs.declared.config.Config.{Config}
 use Rattle.ld_config.specs.Bounds.{IsInBounds}
@@ -20,6 +20,7 @@ invariant-nodes g l =
     × (l.place ≤ length (members l.set))
     × (g.A.Actor.own l.actor ≡ g.A.Actor.own l.fn.actor)
     × g.A.Actor.since l.fn.actor l.actor
+    × (g.N.Nodes.off l.fn.nodes ≡ None → g.N.Nodes.off l.nodes ≡ None)
 
 abbrev pub decreases-nodes : goal.decreases-nodes
 decreases-nodes g l = length (members l.set) - l.place

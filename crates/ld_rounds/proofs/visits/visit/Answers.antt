@@ -3,7 +3,7 @@ use Rattle.std.proofs.lemmas.Result.{err_from_is_err_and}
 use Rattle.ld_msg.specs.declared.msg.Msg.{Msg}
 use Rattle.ld_rounds.specs.Queued.{queue_of, behind}
 use Rattle.ld_rounds.specs.Drives.{IsBroken, Went, AllTaken, WithNode}
-use Rattle.ld_rounds.proofs.Endings.{later_here, later_on, ending_since}
+use Rattle.ld_rounds.proofs.Endings.{later_here, later_on, ending_since, none_off, goes_unoff, ends_as}
 use Rattle.ld_rounds.specs.Rounds.{Visiting, VisitEnd}
 use Rattle.ld_rounds.proofs.Going.{halted, went_here, went_as, goes_as, visiting_on, went_visit}
 use Rattle.ld_rounds.proofs.Visiting.{drives_on, broken_since, broken_until, later_since, fronted, not_taken, taken_none, unwaited, emptied, dialed, missed, dropped}
@@ -34,6 +34,7 @@ frames-init g c = (
   (let l = c.in-Ok.ensures.cause.later in let e = c.in-Ok.ensures.endings in (l, omega (arith, e))),
   refl,
   g.met.A.Actor.since_here c.args.actor.now,
+  c.in-Ok.ensures.off,
 )
 
 pub returns-in_default-clause-held : goal.returns-in_default-clause-held
@@ -112,6 +113,7 @@ frames-preserved g c =
       later_since _ _ _ _ _ _ c.frames.invariant.3 c.in_ok-exchange.ensures.counts,
       c.in_ok-exchange.ensures.itself ∙ c.frames.invariant.4,
       g.met.A.Actor.since_on c.args.actor.now c.frames.actor c.exchange.new.actor c.frames.invariant.5 c.in_ok-exchange.ensures.since,
+      goes_unoff _ c.in_ok-exchange.field-0 (c.in_ok-exchange.ensures.ended c.frames.invariant.6),
     )
 
 pub returns-clause-held : goal.returns-clause-held
@@ -130,3 +132,23 @@ returns-then-not-branch-clause-since g c = g.met.A.Actor.since_on c.args.actor.n
 
 pub returns-in_err-exchange-clause-since : goal.returns-in_err-exchange-clause-since
 returns-in_err-exchange-clause-since g c = g.met.A.Actor.since_on c.args.actor.now c.frames.actor c.exchange.new.actor c.frames.invariant.5 c.in_err-exchange.ensures.since
+
+pub returns-in-Err-clause-ended : goal.returns-in-Err-clause-ended
+returns-in-Err-clause-ended g c = λ none. none_off _ _ c.in-Err.ensures.off
+
+pub returns-in_default-clause-ended : goal.returns-in_default-clause-ended
+returns-in_default-clause-ended g c = λ none. none_off _ _ c.frames.invariant.6
+
+pub returns-in_err-exchange-clause-ended : goal.returns-in_err-exchange-clause-ended
+returns-in_err-exchange-clause-ended g c =
+    let p = err_from_is_err_and c.from_residual.result c.from_residual.ensures.1 in
+    λ none. rw (p.1, p.2) (ends_as Bool (Unit {0}) _ c.in_err-exchange.field-0.0 (c.in_err-exchange.ensures.ended c.frames.invariant.6))
+
+pub returns-then-not-branch-clause-ended : goal.returns-then-not-branch-clause-ended
+returns-then-not-branch-clause-ended g c = λ none. none_off _ _ (goes_unoff _ c.in_ok-exchange.field-0 (c.in_ok-exchange.ensures.ended c.frames.invariant.6))
+
+pub returns-clause-ended : goal.returns-clause-ended
+returns-clause-ended g c = λ none. none_off _ _ c.frames.invariant.6
+
+pub returns-then-not-has-clause-ended : goal.returns-then-not-has-clause-ended
+returns-then-not-has-clause-ended g c = λ none. none_off _ _ none

@@ -1,4 +1,4 @@
-use Rattle.std.proofs.Common.{◌≡◌, ◌⊎◌, ℕ, true, Some}
+use Rattle.std.proofs.Common.{◌≡◌, ◌⊎◌, ℕ, true, Some, None}
 use Rattle.ld_config.specs.declared.config.Config.{Config}
 use Rattle.ld_config.specs.Bounds.{IsInBounds}
 use Rattle.ld_machine.specs.Config.{has_node}
@@ -19,3 +19,4 @@ invariant-frames g l =
     × AreLater (g.N.Nodes.faults l.fn.nodes) (g.N.Nodes.faults l.nodes) (g.N.Nodes.endings l.fn.nodes) (g.N.Nodes.endings l.nodes)
     × (g.A.Actor.own l.actor ≡ g.A.Actor.own l.fn.actor)
     × g.A.Actor.since l.fn.actor l.actor
+    × (g.N.Nodes.off l.nodes ≡ None)

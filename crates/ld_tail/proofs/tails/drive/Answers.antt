@@ -10,7 +10,7 @@ use Rattle.ld_rounds.specs.Ends.{IsSaid}
 use Rattle.ld_rounds.specs.Drives.{Driver, AllTaken, IsBroken, Holds}
 use Rattle.ld_rounds.specs.Taking.{TookReads}
 use Rattle.ld_rounds.proofs.Visiting.{all_there}
-use Rattle.ld_rounds.proofs.Endings.{cause_since}
+use Rattle.ld_rounds.proofs.Endings.{cause_since, none_off}
 use Rattle.ld_rounds.proofs.Going.{stopped_here}
 use Rattle.ld_rounds.specs.Refusals.{HeldNone}
 use Rattle.ld_tail.specs.Looking.{IsLookEnd, HasLooked, looked_on}
@@ -78,7 +78,7 @@ returns-clause-drove g c s far told h =
     let N = AllTaken (g.N.Nodes.tells c.args.nodes.now k) in
     let v = opened_on (tailing (record { name = c.args.name.now; log = a.log; from = c.args.from; until = c.args.until; style = c.args.style })) (IsBroken (g.N.Nodes.faults c.args.nodes.now) (g.N.Nodes.faults c.read.new.nodes) (g.N.Nodes.endings c.args.nodes.now) (g.N.Nodes.endings c.read.new.nodes)) k c.requires.bounds T first [] z.readers U s far c.in-Ok-new.queues c.tell.new.queues old mid heard begins (Ok tt) c.in_ok-tell.ensures.told (unframed_end heard.end c.in-Ok-open.ensures.goes_on) N (told, h.answers) c.args.style a.log c.args.from c.args.until until acted in
     drove_loud (record { name = c.args.name.now; log = a.log; from = c.args.from; until = c.args.until; style = c.args.style }) (IsBroken (g.N.Nodes.faults c.args.nodes.now) (g.N.Nodes.faults c.read.new.nodes) (g.N.Nodes.endings c.args.nodes.now) (g.N.Nodes.endings c.read.new.nodes)) c.args.rounds (g.N.Nodes.tells c.read.new.nodes) k c.requires.bounds s c.read.new.reader.readers (g.G.Register.tells c.read.new.reader.register) c.read.new.queues old new (Follows z.readers U) N c.tell.new.queues mid v
-    (g.N.Nodes.silent c.read.new.nodes ≡ true) c.read.result c.read.ensures.finished (subst (λ (d : Driver). (g.N.Nodes.silent c.read.new.nodes ≡ true) ⊎ TookReads (is_single c.args.style) d (IsBroken (g.N.Nodes.faults c.args.nodes.now) (g.N.Nodes.faults c.read.new.nodes) (g.N.Nodes.endings c.args.nodes.now) (g.N.Nodes.endings c.read.new.nodes)) (members k.nodes) c.args.rounds (Follows c.read.new.reader.readers (g.G.Register.tells c.read.new.reader.register)) (AllTaken (g.N.Nodes.tells c.read.new.nodes k)) k first v.moved.state c.read.new.queues mid new c.read.result)
+    (g.N.Nodes.silent c.read.new.nodes ≡ true) c.read.result c.read.ensures.finished c.read.ensures.unfinished (subst (λ (d : Driver). (g.N.Nodes.silent c.read.new.nodes ≡ true) ⊎ TookReads (is_single c.args.style) d (IsBroken (g.N.Nodes.faults c.args.nodes.now) (g.N.Nodes.faults c.read.new.nodes) (g.N.Nodes.endings c.args.nodes.now) (g.N.Nodes.endings c.read.new.nodes)) (members k.nodes) c.args.rounds (Follows c.read.new.reader.readers (g.G.Register.tells c.read.new.reader.register)) (AllTaken (g.N.Nodes.tells c.read.new.nodes k)) k first v.moved.state c.read.new.queues mid new c.read.result)
     (ap (λ (l : ℕ). tailing (record { name = c.args.name.now; log = l; from = c.args.from; until = c.args.until; style = c.args.style })) (c.in-Ok-open.ensures.log ∙ c.in-Ok.ensures.log)) (subst (λ (single : Bool). (g.N.Nodes.silent c.read.new.nodes ≡ true) ⊎ TookReads single (tailing (record { name = c.args.name.now; log = z.log; from = c.args.from; until = c.args.until; style = c.args.style })) (IsBroken (g.N.Nodes.faults c.args.nodes.now) (g.N.Nodes.faults c.read.new.nodes) (g.N.Nodes.endings c.args.nodes.now) (g.N.Nodes.endings c.read.new.nodes)) (members k.nodes) c.args.rounds (Follows c.read.new.reader.readers (g.G.Register.tells c.read.new.reader.register)) (AllTaken (g.N.Nodes.tells c.read.new.nodes k)) k first v.moved.state c.read.new.queues mid new c.read.result)
     c.is_single.ensures (c.read.ensures.held k first v.moved.state v.far c.requires.bounds (all_there k) v.told v.moved.holds)))
 
@@ -137,3 +137,18 @@ pub returns-in_err-tell-clause-off : goal.returns-in_err-tell-clause-off
 returns-in_err-tell-clause-off g c =
     let p = err_from_is_err_and c.from_residual.result c.from_residual.ensures.1 in
     rw (p.1, p.2) (c.in_err-tell.ensures.off (subst (λ (o : Option Ended). IfSome o (IsSaid c.in-Ok-open.heard.lines.items)) (sym c.in-Ok-open.ensures.goes_on) tt) (g.N.Nodes.off c.args.nodes.now))
+
+pub returns-in_default-clause-ended : goal.returns-in_default-clause-ended
+returns-in_default-clause-ended g c = λ none. none_off _ _ none
+
+pub returns-in_default-new-clause-ended : goal.returns-in_default-new-clause-ended
+returns-in_default-new-clause-ended g c = λ none. none_off _ _ none
+
+pub returns-in_default-open-clause-ended : goal.returns-in_default-open-clause-ended
+returns-in_default-open-clause-ended g c = λ none. none_off _ _ none
+
+pub returns-in_err-tell-clause-ended : goal.returns-in_err-tell-clause-ended
+returns-in_err-tell-clause-ended g c = λ none. none_off _ _ none
+
+pub returns-clause-ended : goal.returns-clause-ended
+returns-clause-ended g c = c.read.ensures.ended

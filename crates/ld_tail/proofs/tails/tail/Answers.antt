@@ -1,14 +1,15 @@
 use Rattle.std.proofs.Common.{◌≡◌, ◌⊎◌, ℕ, refl, sym, ap, ◌∙◌, subst, inl, inr, None, true, Some}
 use Rattle.ld_rounds.specs.declared.ended.Ended.{Ended}
 use Rattle.ld_rounds.specs.Drives.{IsBroken}
-use Rattle.ld_rounds.specs.Endings.{IsOffAs}
+use Rattle.ld_rounds.specs.Endings.{IsOffAs, EndedOff}
 use Rattle.ld_rounds.specs.Reaching.{Begins}
 use Rattle.ld_rounds.proofs.Going.{stopped_here}
+use Rattle.ld_rounds.proofs.Endings.{none_ended}
 use Rattle.ld_rounds.specs.Refusals.{HeldNone}
 use Rattle.ld_tail.specs.Looking.{IsLookEnd, HasLooked, why_of}
 use Rattle.ld_tail.specs.Tails.{HasNone, EndAt, IsTailed, IsTailEnd, DroveTail, tailing}
 use Rattle.ld_tail.proofs.Looked.{why_is}
-use Rattle.ld_tail.proofs.Tailing.{tail_end, end_off, tailed_loud}
+use Rattle.ld_tail.proofs.Tailing.{tail_end, end_off, end_ended, tailed_loud}
 use Rattle.ld_tail.proofs.tails.tail.Goals as goal
 
 pub returns-in_default-clause-tailed : goal.returns-in_default-clause-tailed
@@ -96,3 +97,11 @@ returns-clause-off g c =
     let off = g.N.Nodes.off c.drive-driven.new.nodes in
     subst (IsOffAs off) (sym c.end_of-ended.ensures)
     (end_off (λ place. g.G.Register.told r → g.G.Register.damaged r place) (g.G.Register.faults r) (g.G.Register.faults x) (g.O.Sink.faults c.args.out.now) (g.O.Sink.faults c.drive-driven.new.out) off c.drive-driven.result c.why_of.result why c.drive-driven.ensures.off)
+
+pub returns-in_default-clause-ended : goal.returns-in_default-clause-ended
+returns-in_default-clause-ended g c = λ none. none_ended _ _ none
+
+pub returns-clause-ended : goal.returns-clause-ended
+returns-clause-ended g c =
+    let off = g.N.Nodes.off c.drive-driven.new.nodes in
+    λ none. subst (EndedOff off) (sym c.end_of-ended.ensures) (end_ended off c.drive-driven.result c.why_of.result (c.drive-driven.ensures.ended none))

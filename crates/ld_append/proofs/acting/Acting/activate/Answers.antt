@@ -1,4 +1,4 @@
-use Rattle.std.proofs.Common.{◌≡◌, ◌∙◌, ℕ, [], ◌∷◌, refl, ap, sym, subst, Ok, Err, IfOk, OnOk, IsErrOf, None, Some, Option, IfSome}
+use Rattle.std.proofs.Common.{◌≡◌, ◌∙◌, ℕ, List, false, [], ◌∷◌, refl, ap, sym, subst, Ok, Err, IfOk, OnOk, IsErrOf, None, Some, Option, IfSome}
 use Rattle.std.specs.declared.result.Result.{Result}
 use Rattle.ld_transcript.specs.declared.line.Line.TheVariants.{Active}
 use Rattle.ld_register.specs.declared.fault.RegisterFault.TheVariants.{Damaged, LogLimit}
@@ -12,9 +12,10 @@ use Rattle.ld_rounds.specs.declared.ended.Ended.{Ended}
 use Rattle.ld_rounds.specs.declared.ended.Ended.TheVariants as ends
 use Rattle.ld_append.specs.Acting.{MayCrowd, IsOfLog}
 use Rattle.ld_append.proofs.Crowding.{limit_by, refused_activation, activation_leaves}
-use Rattle.ld_append.specs.Refusing.{fault_end}
+use Rattle.ld_rounds.specs.Ends.{tells_by, is_final}
+use Rattle.ld_append.specs.Refusing.{fault_end, start_lines}
 use Rattle.ld_append.proofs.Keeping.{refused_start, begun_not, begun_well}
-use Rattle.ld_append.proofs.Saying.{damaged_by}
+use Rattle.ld_append.proofs.Saying.{damaged_by, final_started}
 use Rattle.ld_append.proofs.Serving.{is_activated, not_activated, active_log, serves_as}
 use Rattle.ld_append.proofs.acting.Acting.activate.Goals as goal
 
@@ -100,3 +101,13 @@ returns-in_err-copy-in-Ok-clause-on g c = λ none. begun_well _ _ c.in-Ok.sequen
 
 pub returns-in_err-heard-in-Ok-clause-on : goal.returns-in_err-heard-in-Ok-clause-on
 returns-in_err-heard-in-Ok-clause-on g c = λ none. begun_well _ _ c.in-Ok.sequencer c.args.self.now.end (g.G.Register.told c.args.self.now.register) (g.G.Register.holds c.args.self.now.register) (g.G.Register.holds c.activate.new.reg) (g.G.Register.faults c.args.self.now.register) (g.G.Register.faults c.activate.new.reg) none c.in-Ok.ensures.steady c.in-Ok.ensures.whole c.in-Ok.ensures.held
+
+started_final : {E : Type 0} (name : List ℕ) (r : Result Heard E) (fault : SequencerFault) → IfOk r (λ heard. heard.end ≡ fault_end fault) → IfOk r (λ heard. heard.lines.items ≡ start_lines name fault) → IfOk r (λ heard. heard.end ≡ None → tells_by is_final heard.lines.items ≡ false)
+started_final name (Ok h) fault e l = final_started name fault h.end h.lines.items e l
+started_final name (Err x) fault e l = tt
+
+pub returns-in-Err-clause-ends : goal.returns-in-Err-clause-ends
+returns-in-Err-clause-ends g c = started_final c.args.self.now.name c.refused.result c.in-Err.fault c.refused.ensures.end c.refused.ensures.lines
+
+pub returns-in_ok-heard-in-Ok-clause-ends : goal.returns-in_ok-heard-in-Ok-clause-ends
+returns-in_ok-heard-in-Ok-clause-ends g c = λ none. ap (tells_by is_final) c.in_ok-heard-in-Ok.ensures.lines

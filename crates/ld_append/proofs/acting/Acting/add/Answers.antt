@@ -3,9 +3,10 @@ use Rattle.ld_msg.specs.Sequencer.{appending, appended, first_stores}
 use Rattle.ld_sequencer.specs.Own.{append_fault}
 use Rattle.ld_sequencer.specs.Whole.{as_now, sent_as}
 use Rattle.ld_sequencer.specs.Whole.{Whole}
+use Rattle.ld_rounds.specs.Ends.{tells_by, is_final}
 use Rattle.ld_append.specs.Acting.{Serves, IsSince, is_here}
 use Rattle.ld_append.proofs.Crowding.{same_since}
-use Rattle.ld_append.proofs.Saying.{append_said, full_lines}
+use Rattle.ld_append.proofs.Saying.{append_said, full_lines, final_is}
 use Rattle.ld_append.proofs.Serving.{serves_as, none_appended, is_appended, not_appended, append_lines}
 use Rattle.ld_append.proofs.acting.Acting.add.Goals as goal
 
@@ -57,3 +58,12 @@ pub returns-in_ok-heard-in-Err-clause-since : goal.returns-in_ok-heard-in-Err-cl
 returns-in_ok-heard-in-Err-clause-since g c =
     subst (λ o. IsSince o (Some c.append.new.self) (g.G.Register.told c.args.self.now.register) (g.G.Register.told c.args.self.now.register) (g.G.Register.may_hold c.args.self.now.register) (g.G.Register.may_hold c.args.self.now.register) c.args.self.now.is_shut c.args.self.now.is_shut) (sym c.in-Some.is)
     (same_since c.in-Some.sequencer c.append.new.self (g.G.Register.told c.args.self.now.register) (g.G.Register.may_hold c.args.self.now.register) c.args.self.now.is_shut (ap (λ (w : Whole). w.sequencer.log) c.in-Err.ensures.same))
+
+pub returns-in_ok-heard-in-Err-clause-ends : goal.returns-in_ok-heard-in-Err-clause-ends
+returns-in_ok-heard-in-Err-clause-ends g c = final_is c.args.self.now.name (Err c.in-Err.fault) c.in_ok-heard-in-Err.heard.end c.in_ok-heard-in-Err.heard.lines.items c.in_ok-heard-in-Err.ensures.end c.in_ok-heard-in-Err.ensures.lines
+
+pub returns-in_ok-heard-in-Ok-clause-ends : goal.returns-in_ok-heard-in-Ok-clause-ends
+returns-in_ok-heard-in-Ok-clause-ends g c = λ none. ap (tells_by is_final) c.in_ok-heard-in-Ok.ensures.lines
+
+pub returns-in_default-clause-ends : goal.returns-in_default-clause-ends
+returns-in_default-clause-ends g c = λ none. ap (tells_by is_final) c.nothing.ensures.lines

@@ -4,6 +4,8 @@ use Rattle.ld_clients.specs.declared.client.Client.TheVariants.{Live}
 use Rattle.ld_clients.proofs.Acting.{retried_goes}
 use Rattle.ld_sequencer.specs.Whole.{retry_acts}
 use Rattle.ld_rounds.specs.declared.ended.Ended.TheVariants as ends
+use Rattle.ld_rounds.specs.Ends.{tells_by, is_final}
+use Rattle.ld_append.proofs.Saying.{final_going}
 use Rattle.ld_append.specs.Acting.{Serves, IsSince, HasKept, is_here, kept_here}
 use Rattle.ld_append.specs.Refusing.{going}
 use Rattle.ld_append.proofs.Crowding.{tries_leave, called_since, gone_since, since_as}
@@ -73,3 +75,9 @@ returns-then-is_some-clause-kept g c = kept_here c.args.self.now.end (g.G.Regist
 
 pub returns-then-is_some-clause-since : goal.returns-then-is_some-clause-since
 returns-then-is_some-clause-since g c = is_here c.args.self.now.sequencer (g.G.Register.told c.args.self.now.register) (g.G.Register.may_hold c.args.self.now.register) c.args.self.now.is_shut
+
+pub returns-in-Ok-clause-ends : goal.returns-in-Ok-clause-ends
+returns-in-Ok-clause-ends g c = final_going c.args.self.now.name c.retry-answer.result c.go_on.result.end c.go_on.result.lines.items (c.go_on.ensures.ends ∙ ap going c.in-Ok.ensures.end) (c.go_on.ensures.lines ∙ c.in-Ok.ensures.lines)
+
+pub returns-in_default-clause-ends : goal.returns-in_default-clause-ends
+returns-in_default-clause-ends g c = λ none. ap (tells_by is_final) c.nothing.ensures.lines

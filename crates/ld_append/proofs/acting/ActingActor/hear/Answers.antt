@@ -4,6 +4,7 @@ use Rattle.ld_clients.specs.declared.client.Client.TheVariants.{Live}
 use Rattle.ld_clients.proofs.Acting.{replied_goes}
 use Rattle.ld_sequencer.specs.Whole.{reply_acts}
 use Rattle.ld_rounds.specs.declared.ended.Ended.TheVariants as ends
+use Rattle.ld_append.proofs.Saying.{final_going}
 use Rattle.ld_append.specs.Acting.{Serves, IsTo, IsSince, HasKept, is_here, kept_here}
 use Rattle.ld_append.specs.Refusing.{going}
 use Rattle.ld_append.proofs.Crowding.{tries_leave, called_since, gone_since, since_as}
@@ -59,3 +60,6 @@ returns-then-is_some-clause-since g c = (
   refl,
   kept_here c.args.self.now.end (g.G.Register.holds c.args.self.now.register) (g.G.Register.faults c.args.self.now.register),
 )
+
+pub returns-in-Ok-clause-ends : goal.returns-in-Ok-clause-ends
+returns-in-Ok-clause-ends g c = final_going c.args.self.now.name c.on_reply-answer.result c.go_on.result.end c.go_on.result.lines.items (c.go_on.ensures.ends ∙ ap going c.in-Ok.ensures.end) (c.go_on.ensures.lines ∙ c.in-Ok.ensures.lines)

@@ -1,8 +1,9 @@
-use Rattle.std.proofs.Common.{sym, subst}
+use Rattle.std.proofs.Common.{ap, sym, subst}
 use Rattle.ld_schedule.specs.declared.event.Event.TheVariants.{Append}
 use Rattle.ld_machine.specs.Step.{happens}
 use Rattle.ld_clients.proofs.Rows.{on_ok}
 use Rattle.ld_rounds.specs.Acts.{IsActed}
+use Rattle.ld_rounds.specs.Ends.{tells_by, is_final}
 use Rattle.ld_append.specs.Acting.{Serves}
 use Rattle.ld_append.proofs.Serving.{unlike, alike, other_appended}
 use Rattle.ld_append.proofs.acting.ActingAppends.append.Goals as goal
@@ -17,3 +18,6 @@ returns-clause-appended g c = on_ok _ _ c.add.result
     (λ x d k s b sound h. subst (λ n. IsActed (Serves c.add.new.self.name c.add.new.self.sequencer (g.G.Register.tells c.add.new.self.register) k) s x.heard.lines.items x.heard.sends (happens k s (Append n c.args.payload.now)))
     (sym (alike c.args.name.now c.args.self.now.name c.ne.result c.ne.ensures c.if-ne.false)) (d k s h))
     c.add.ensures.appended
+
+pub returns-then-ne-clause-ends : goal.returns-then-ne-clause-ends
+returns-then-ne-clause-ends g c = λ none. ap (tells_by is_final) c.nothing.ensures.lines

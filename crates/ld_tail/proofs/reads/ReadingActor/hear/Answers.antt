@@ -9,7 +9,7 @@ use Rattle.ld_rounds.specs.Acts.{IsActed}
 use Rattle.ld_tail.specs.Readers.{Follows}
 use Rattle.ld_tail.specs.Looking.{HasLooked, looked_here}
 use Rattle.ld_tail.proofs.Looked.{answer_looked, reader_looked}
-use Rattle.ld_tail.proofs.Clients.{reader_acted, reader_client, told_acted}
+use Rattle.ld_tail.proofs.Clients.{reader_acted, reader_client, told_acted, none_final}
 use Rattle.ld_tail.proofs.reads.ReadingActor.hear.Goals as goal
 
 pub returns-in-Ok-clause-messages : goal.returns-in-Ok-clause-messages
@@ -44,3 +44,6 @@ returns-in-Err-clause-since g c =
     let looked = reader_looked (g.G.Register.told r) (g.G.Register.told z) (g.G.Register.holds r) (g.G.Register.holds z) (g.G.Register.may_hold r) (g.G.Register.may_hold z) (g.G.Register.faults r) (g.G.Register.faults z) (g.G.Register.identity r) (g.G.Register.identity z) c.in-Err.ensures.told c.in-Err.ensures.same c.in-Err.ensures.counts c.in-Err.ensures.itself {T = Outcome} c.in-Err.fault c.in-Err.ensures.keeps c.in-Err.ensures.failed
     (λ place e x h. g.met.G.Register.held_is_whole r x place h (c.in-Err.ensures.damaged place e (g.met.G.Register.held_is_told r x h))) c.in-Err.ensures.refused in
     subst (λ o. HasLooked o (Some c.look_end.result) (g.G.Register.told r) (g.G.Register.told z) (g.G.Register.holds r) (g.G.Register.holds z) (g.G.Register.may_hold r) (g.G.Register.may_hold z) (g.G.Register.faults r) (g.G.Register.faults z) (g.G.Register.identity r) (g.G.Register.identity z)) (sym c.in-None.is) (subst (λ e. HasLooked None (Some e) (g.G.Register.told r) (g.G.Register.told z) (g.G.Register.holds r) (g.G.Register.holds z) (g.G.Register.may_hold r) (g.G.Register.may_hold z) (g.G.Register.faults r) (g.G.Register.faults z) (g.G.Register.identity r) (g.G.Register.identity z)) (sym c.look_end.ensures) looked)
+
+pub returns-in-Ok-clause-ends : goal.returns-in-Ok-clause-ends
+returns-in-Ok-clause-ends g c = λ none. none_final c.told.result.lines.items
