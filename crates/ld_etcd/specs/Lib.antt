@@ -1,1 +1,4 @@
+pub mod Gateway
 pub mod Known
+pub mod Request
+pub mod Transactions

@@ -1,4 +1,8 @@
 // Calls to the members of an etcd.
+ghost use Rattle.std.specs.Prelude.{◌≡◌, ℕ, List};
+ghost use Rattle.ld_etcd.specs.Request.{Asks};
+ghost use Rattle.ld_etcd.specs.Known.{asked_of};
+
 use crate::gateway::json_of;
 use crate::http::post;
 use crate::{Cause, Members};
@@ -19,7 +23,9 @@ pub(crate) struct Caller<M: Members + Drop> {
 
 impl<M: Members + Drop> Caller<M> {
     /// The members, none of which was asked yet.
-    pub(crate) fn new(members: M) -> Caller<M> {
+    pub(crate) fn new(members: M) -> Caller<M>
+        ensures { asked_of M.Members result ≡ M.did members }
+    {
         Caller {
             members,
             member: 0,
@@ -34,9 +40,12 @@ impl<M: Members + Drop> Caller<M> {
 
     /// Posts a text to a path. Where no member takes a connection nothing is sent. Where it was sent and no answer of etcd
     /// came, it is sent up to twice more, each time to the next member.
-    pub(crate) fn call(&mut self, alloc: Global, path: &str, text: &str) -> Result<Value, Cause> {
+    #[tactic(auto, using(crate::proofs::Asking::asks_none, crate::proofs::Asking::asks_on))]
+    pub(crate) fn call(&mut self, alloc: Global, path: &str, text: &str) -> Result<Value, Cause>
+        ensures { Asks path.now text.now (asked_of M.Members self.old) (asked_of M.Members self.new) }
+    {
         let mut last = Cause::NotEtcd;
-        for _ in 0..TRIES {
+        'tries: for _ in 0..TRIES {
             match self.call_once(alloc, path, text) {
                 Ok(answer) => return Ok(answer),
                 Err(cause) => last = cause,
@@ -50,19 +59,24 @@ impl<M: Members + Drop> Caller<M> {
     }
 
     /// Posts a text to a path once.
-    fn call_once(&mut self, alloc: Global, path: &str, text: &str) -> Result<Value, Cause> {
+    fn call_once(&mut self, alloc: Global, path: &str, text: &str) -> Result<Value, Cause>
+        ensures { Asks path.now text.now (asked_of M.Members self.old) (asked_of M.Members self.new) }
+    {
         self.connect()?;
         let response = post(alloc, &mut self.members, self.member, path, text.as_bytes())?;
         json_of(alloc, &response)
     }
 
     /// Connects to the first member from the present one on that takes a connection, where none is connected.
-    fn connect(&mut self) -> Result<(), Cause> {
+    #[tactic(auto, using(crate::proofs::Asking::asks_none))]
+    fn connect(&mut self) -> Result<(), Cause>
+        ensures { (path text : List ℕ) → Asks path text (asked_of M.Members self.old) (asked_of M.Members self.new) }
+    {
         if self.is_connected {
             return Ok(());
         }
         let mut last = Cause::Unreachable(ErrorKind::NotFound);
-        for _ in 0..self.members.count() {
+        'members: for _ in 0..self.members.count() {
             match self.members.connect(self.member) {
                 Ok(()) => {
                     self.is_connected = true;
@@ -76,7 +90,9 @@ impl<M: Members + Drop> Caller<M> {
     }
 
     /// Turns to the next member.
-    fn turn(&mut self) {
+    fn turn(&mut self)
+        ensures { asked_of M.Members self.new ≡ asked_of M.Members self.old }
+    {
         self.is_connected = false;
         self.member = self.member.saturating_add(1);
         if self.member >= self.members.count() {

@@ -1,31 +1,69 @@
 // What is asked of etcd's JSON gateway, and what its answers say. Bytes are base64 there, and numbers of 64 bits are texts; a
 // field that is false, 0 or empty is left out.
+ghost use Rattle.std.specs.Prelude.{◌≡◌, ◌≢◌, [], Option, option_map, option_and_then, string_bytes, codes, IfOk, Ok, Some, true};
+ghost use Rattle.serde_json.specs.Find.{get, as_str, as_array};
+ghost use Rattle.serde_json.specs.View.{view, items_view};
+ghost use Rattle.ld_etcd.specs.Gateway.{hexadecimal, record_key, keys_end, encoded, range_request, make_request, text_in, items_in, IsPair};
+ghost use Rattle.ld_etcd.specs.Transactions.{Ended};
+
 use crate::Cause;
 use crate::http::Response;
 use base64::engine::general_purpose::STANDARD;
 use serde_json::Value;
 use std::alloc::Global;
 
-/// How many records one call asks for.
-const PAGE: u64 = 500;
-
 /// The code of an answer to a call that ran out of some resource.
 const EXHAUSTED: u64 = 8;
 
+/// A number in 16 hexadecimal digits.
+fn hexadecimal(alloc: Global, number: u64) -> Result<String, Cause>
+    ensures { IfOk result (λ text. string_bytes text ≡ hexadecimal number) }
+{
+    Ok(format!(in alloc; "{number:016x}")?)
+}
+
+/// Bytes in base64.
+#[tactic(auto, unfolding(crate::specs::Gateway::encoded))]
+fn encoded(alloc: Global, bytes: &[u8]) -> Result<String, Cause>
+    ensures { IfOk result (λ text. string_bytes text ≡ encoded bytes.now) }
+{
+    Ok(STANDARD.encode(alloc, bytes)?)
+}
+
 /// The key of the record of a number, in base64.
-pub(crate) fn key_of(alloc: Global, prefix: &str, number: u64) -> Result<String, Cause> {
-    let key = format!(in alloc; "{prefix}/{number:016x}")?;
-    Ok(STANDARD.encode(alloc, key.as_bytes())?)
+#[tactic(auto, unfolding(crate::specs::Gateway::record_key))]
+pub(crate) fn key_of(alloc: Global, prefix: &str, number: u64) -> Result<String, Cause>
+    ensures { IfOk result (λ key. string_bytes key ≡ encoded (record_key prefix.now number)) }
+{
+    let mut key = String::from_str(alloc, prefix)?;
+    key.push_str("/")?;
+    let number = hexadecimal(alloc, number)?;
+    key.push_str(number.as_str())?;
+    encoded(alloc, key.as_bytes())
+}
+
+/// What lies behind all keys of records, in base64.
+#[tactic(auto, unfolding(crate::specs::Gateway::keys_end))]
+fn end_of(alloc: Global, prefix: &str) -> Result<String, Cause>
+    ensures { IfOk result (λ end. string_bytes end ≡ encoded (keys_end prefix.now)) }
+{
+    let mut end = String::from_str(alloc, prefix)?;
+    end.push_str("0")?;
+    encoded(alloc, end.as_bytes())
 }
 
 /// Asks for the records from a number on.
-pub(crate) fn range_text(alloc: Global, prefix: &str, from: u64) -> Result<String, Cause> {
+pub(crate) fn range_text(alloc: Global, prefix: &str, from: u64) -> Result<String, Cause>
+    ensures { IfOk result (λ text. string_bytes text ≡ range_request prefix.now from) }
+{
     let from = key_of(alloc, prefix, from)?;
-    let end = format!(in alloc; "{prefix}0")?;
-    let end = STANDARD.encode(alloc, end.as_bytes())?;
-    Ok(format!(in alloc;
-        "{{\"key\":\"{from}\",\"range_end\":\"{end}\",\"limit\":{PAGE},\"sort_order\":\"ASCEND\",\"sort_target\":\"KEY\"}}"
-    )?)
+    let end = end_of(alloc, prefix)?;
+    let mut text = String::from_str(alloc, "{\"key\":\"")?;
+    text.push_str(from.as_str())?;
+    text.push_str("\",\"range_end\":\"")?;
+    text.push_str(end.as_str())?;
+    text.push_str("\",\"limit\":500,\"sort_order\":\"ASCEND\",\"sort_target\":\"KEY\"}")?;
+    Ok(text)
 }
 
 /// Asks for the making of a record, where its key was never made, and for what stands there otherwise.
@@ -34,12 +72,24 @@ pub(crate) fn make_text(
     prefix: &str,
     number: u64,
     value: &[u8],
-) -> Result<String, Cause> {
+) -> Result<String, Cause>
+    ensures { IfOk result (λ text. string_bytes text ≡ make_request prefix.now number value.now) }
+{
     let key = key_of(alloc, prefix, number)?;
-    let value = STANDARD.encode(alloc, value)?;
-    Ok(format!(in alloc;
-        "{{\"compare\":[{{\"target\":\"CREATE\",\"result\":\"EQUAL\",\"key\":\"{key}\",\"create_revision\":\"0\"}}],\"success\":[{{\"request_put\":{{\"key\":\"{key}\",\"value\":\"{value}\"}}}}],\"failure\":[{{\"request_range\":{{\"key\":\"{key}\"}}}}]}}"
-    )?)
+    let value = encoded(alloc, value)?;
+    let mut text = String::from_str(
+        alloc,
+        "{\"compare\":[{\"target\":\"CREATE\",\"result\":\"EQUAL\",\"key\":\"",
+    )?;
+    text.push_str(key.as_str())?;
+    text.push_str("\",\"create_revision\":\"0\"}],\"success\":[{\"request_put\":{\"key\":\"")?;
+    text.push_str(key.as_str())?;
+    text.push_str("\",\"value\":\"")?;
+    text.push_str(value.as_str())?;
+    text.push_str("\"}}],\"failure\":[{\"request_range\":{\"key\":\"")?;
+    text.push_str(key.as_str())?;
+    text.push_str("\"}}]}")?;
+    Ok(text)
 }
 
 /// The JSON of a response that went well.
@@ -85,7 +135,9 @@ pub(crate) fn transaction_of(
     answer: &Value,
     prefix: &str,
     number: u64,
-) -> Result<Transaction, Cause> {
+) -> Result<Transaction, Cause>
+    ensures { IfOk result (λ t. Ended prefix.now number (view answer.now) t) }
+{
     let [response] = list(answer, "responses") else {
         return Err(Cause::NotEtcd);
     };
@@ -105,7 +157,9 @@ pub(crate) fn transaction_of(
 }
 
 /// The pairs of key and value of a range.
-pub(crate) fn pairs_of(answer: &Value) -> &[Value] {
+pub(crate) fn pairs_of(answer: &Value) -> &[Value]
+    ensures { items_view result.now ≡ items_in (codes "kvs") (view answer.now) }
+{
     list(answer, "kvs")
 }
 
@@ -115,9 +169,11 @@ pub(crate) fn value_of(
     pair: &Value,
     prefix: &str,
     number: u64,
-) -> Result<Vec<u8>, Cause> {
+) -> Result<Vec<u8>, Cause>
+    ensures { IfOk result (λ value. IsPair prefix.now number (view pair.now) value.items) }
+{
     let key = key_of(alloc, prefix, number)?;
-    if text(pair, "key") != Some(key.as_str()) || text(pair, "version") != Some("1") {
+    if !has_text(pair, "key", key.as_str()) || !has_text(pair, "version", "1") {
         return Err(Cause::NoRecord(number));
     }
     // An empty value is left out.
@@ -129,12 +185,26 @@ pub(crate) fn value_of(
 }
 
 /// A member that is a text.
-fn text<'v>(value: &'v Value, name: &str) -> Option<&'v str> {
+fn text<'v>(value: &'v Value, name: &str) -> Option<&'v str>
+    ensures { option_map (λ t. t.now) result ≡ text_in name.now (view value.now) }
+{
     value.get(name).and_then(Value::as_str)
 }
 
+/// Whether a member is this text.
+fn has_text(value: &Value, name: &str, wanted: &str) -> bool
+    ensures { result ≡ true → text_in name.now (view value.now) ≡ Some wanted.now }
+{
+    match text(value, name) {
+        Some(found) => found == wanted,
+        None => false,
+    }
+}
+
 /// The elements of a member that is an array; none where there is no such array.
-fn list<'v>(value: &'v Value, name: &str) -> &'v [Value] {
+fn list<'v>(value: &'v Value, name: &str) -> &'v [Value]
+    ensures { items_view result.now ≡ items_in name.now (view value.now) }
+{
     match value.get(name).and_then(Value::as_array) {
         Some(items) => items.as_slice(),
         None => &[],

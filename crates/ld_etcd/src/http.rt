@@ -1,4 +1,8 @@
 // One request and its response over HTTP/1.1.
+ghost use Rattle.std.specs.Prelude.{◌≡◌, codes, IfOk};
+ghost use Rattle.http1.specs.Client.{new_client};
+ghost use Rattle.ld_etcd.specs.Request.{posted, Asks};
+
 use crate::{Cause, Members};
 use http1::{BodySize, Client, Event, Header, Limits};
 use httparse::spans::EMPTY_HEADER_SPAN;
@@ -22,7 +26,9 @@ pub(crate) fn post<M: Members>(
     member: usize,
     path: &str,
     body: &[u8],
-) -> Result<Response, Cause> {
+) -> Result<Response, Cause>
+    ensures { Asks path.now body.now (M.did members.old) (M.did members.new) }
+{
     let mut client = Client::new(Limits::default());
     let request = write_request(
         alloc,
@@ -38,13 +44,16 @@ pub(crate) fn post<M: Members>(
 }
 
 /// The bytes of a request.
+#[tactic(auto, unfolding(crate::specs::Request::posted))]
 fn write_request(
     alloc: Global,
     client: &mut Client,
     host: &str,
     path: &[u8],
     body: &[u8],
-) -> Result<Vec<u8>, Cause> {
+) -> Result<Vec<u8>, Cause>
+    ensures { IfOk result (λ bytes. bytes.items ≡ posted client.old host.now path.now body.now) }
+{
     let mut out = Vec::new(alloc);
     let headers = [
         Header {
@@ -57,16 +66,16 @@ fn write_request(
         },
     ];
     let size = BodySize::Known(body.len() as u64);
-    let is_written = client
-        .write_request(&mut out, b"POST", path, &headers, size)
-        .is_ok()
-        && client.write_data(&mut out, body).is_ok()
-        && client.write_end(&mut out, &[]).is_ok();
-    if is_written {
-        Ok(out)
-    } else {
-        Err(Cause::Unreachable(ErrorKind::InvalidInput))
-    }
+    let Ok(()) = client.write_request(&mut out, b"POST", path, &headers, size) else {
+        return Err(Cause::Unreachable(ErrorKind::InvalidInput));
+    };
+    let Ok(()) = client.write_data(&mut out, body) else {
+        return Err(Cause::Unreachable(ErrorKind::InvalidInput));
+    };
+    let Ok(()) = client.write_end(&mut out, &[]) else {
+        return Err(Cause::Unreachable(ErrorKind::InvalidInput));
+    };
+    Ok(out)
 }
 
 /// Reads a response to its end.
@@ -74,7 +83,9 @@ fn read_response<M: Members>(
     alloc: Global,
     members: &mut M,
     client: &mut Client,
-) -> Result<Response, Cause> {
+) -> Result<Response, Cause>
+    ensures { M.did members.new ≡ M.did members.old }
+{
     let mut response = Response {
         code: 0,
         body: Vec::new(alloc),
@@ -82,7 +93,7 @@ fn read_response<M: Members>(
     let mut input = Vec::new(alloc);
     let mut start = 0usize;
     let mut headers = [EMPTY_HEADER_SPAN; 64];
-    for _ in 0..u64::MAX {
+    'steps: for _ in 0..u64::MAX {
         if start > input.len() {
             return Err(Cause::NoResponse);
         }
@@ -114,7 +125,9 @@ fn read_response<M: Members>(
 }
 
 /// Puts what comes next behind what came.
-fn take_more<M: Members>(members: &mut M, input: &mut Vec<u8>) -> Result<(), Cause> {
+fn take_more<M: Members>(members: &mut M, input: &mut Vec<u8>) -> Result<(), Cause>
+    ensures { M.did members.new ≡ M.did members.old }
+{
     if input.len() > 2 * MOST {
         return Err(Cause::NoResponse);
     }

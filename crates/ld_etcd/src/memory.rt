@@ -1,5 +1,6 @@
 // Members in memory, whose answers are told beforehand.
 use crate::Members;
+use ld_past::Past;
 use std::alloc::Global;
 use std::io::ErrorKind;
 
@@ -24,9 +25,12 @@ pub struct MemMembers {
     asked: Vec<usize>,
     coming: Option<Vec<u8>>,
     at: usize,
+    did: Past,
 }
 
 impl MemMembers {
+    ghost use Rattle.std.specs.Prelude.{◌≡◌};
+
     /// Members with these hosts, and their replies in order.
     pub fn new(alloc: Global, hosts: Vec<String>, replies: Vec<Reply>) -> MemMembers {
         MemMembers {
@@ -37,6 +41,7 @@ impl MemMembers {
             asked: Vec::new(alloc),
             coming: None,
             at: 0,
+            did: Past::new(),
         }
     }
 
@@ -51,7 +56,9 @@ impl MemMembers {
     }
 
     /// Takes the next reply.
-    fn next_reply(&mut self) -> Option<Reply> {
+    fn next_reply(&mut self) -> Option<Reply>
+        ensures { self.new.did ≡ self.old.did }
+    {
         if self.replies.is_empty() {
             return None;
         }
@@ -60,6 +67,8 @@ impl MemMembers {
 }
 
 impl Members for MemMembers {
+    ghost did = { λ m. m.did.events };
+
     fn count(&self) -> usize {
         self.hosts.len()
     }
@@ -72,6 +81,7 @@ impl Members for MemMembers {
     }
 
     fn connect(&mut self, member: usize) -> Result<(), ErrorKind> {
+        self.did.note(&[0, member as u64], &[]);
         self.coming = None;
         let _ = self.asked.push(member);
         if let Some(Reply::Refuses) = self.replies.first() {
@@ -82,6 +92,7 @@ impl Members for MemMembers {
     }
 
     fn write(&mut self, bytes: &[u8]) -> Result<(), ErrorKind> {
+        self.did.note(&[1], bytes);
         let Ok(copy) = Vec::from_slice(self.alloc, bytes) else {
             return Err(ErrorKind::OutOfMemory);
         };

@@ -2,6 +2,7 @@
 ghost use Rattle.std.specs.Prelude.{◌≡◌, ◌≤◌, length, IfOk, IfSome};
 
 use crate::Members;
+use ld_past::Past;
 use std::io;
 use std::io::{ErrorKind, Read, Write};
 use std::net::{Net, SocketAddr, TcpListener, TcpStream, ToSocketAddrs};
@@ -16,6 +17,7 @@ pub struct TcpMembers<'a, R: Net<Listener = TcpListener, Stream = TcpStream>> {
     rt: &'a R,
     places: Vec<String>,
     stream: Option<TcpStream>,
+    did: Past,
 }
 
 impl<'a, R: Net<Listener = TcpListener, Stream = TcpStream>> TcpMembers<'a, R> {
@@ -25,11 +27,14 @@ impl<'a, R: Net<Listener = TcpListener, Stream = TcpStream>> TcpMembers<'a, R> {
             rt,
             places,
             stream: None,
+            did: Past::new(),
         }
     }
 }
 
 impl<'a, R: Net<Listener = TcpListener, Stream = TcpStream>> Members for TcpMembers<'a, R> {
+    ghost did = { λ m. m.did.events };
+
     fn count(&self) -> usize {
         self.places.len()
     }
@@ -42,6 +47,7 @@ impl<'a, R: Net<Listener = TcpListener, Stream = TcpStream>> Members for TcpMemb
     }
 
     fn connect(&mut self, member: usize) -> Result<(), ErrorKind> {
+        self.did.note(&[0, member as u64], &[]);
         self.stream = None;
         match connected(self.rt, self.host(member)) {
             Ok(stream) => {
@@ -53,6 +59,7 @@ impl<'a, R: Net<Listener = TcpListener, Stream = TcpStream>> Members for TcpMemb
     }
 
     fn write(&mut self, bytes: &[u8]) -> Result<(), ErrorKind> {
+        self.did.note(&[1], bytes);
         let Some(stream) = &mut self.stream else {
             return Err(ErrorKind::NotConnected);
         };

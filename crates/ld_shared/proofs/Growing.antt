@@ -11,6 +11,9 @@ use Rattle.ld_shared.specs.declared.shared.Unsettled.{Unsettled}
 pub grows_not : (xs : List (List ℕ)) → Grows xs xs
 grows_not xs = record { more = []; is = sym (append-nil xs) }
 
+pub grows_as : {C : Type 0} (list : C → List (List ℕ)) (xs : List (List ℕ)) (mid new : C) → new ≡ mid → Grows xs (list mid) → Grows xs (list new)
+grows_as list xs mid new is g = subst (λ c. Grows xs (list c)) (sym is) g
+
 pub grows_on : (xs ys zs : List (List ℕ)) → Grows xs ys → Grows ys zs → Grows xs zs
 grows_on xs ys zs g h = record { more = g.more ++ h.more; is = h.is ∙ ap (λ l. l ++ h.more) g.is ∙ append_assoc xs g.more h.more }
 

@@ -1,5 +1,9 @@
 pub mod Growing
 pub mod Reading
 pub mod Meeting
+pub mod Exact
+pub mod Alone
+pub mod Sole
 pub mod Calling
 pub mod Together
+pub mod Changing

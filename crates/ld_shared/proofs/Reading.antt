@@ -1,5 +1,7 @@
 -- Records that are read into a journal, and the register in memory that has it.
-use Rattle.std.proofs.Common.{◌≡◌, ◌<◌, ◌+◌, ◌^◌, ℕ, List, [], ◌∷◌, ◌++◌, Some, length, take, drop, refl, ap, sym, ◌∙◌, subst, arith}
+use Rattle.std.proofs.Common.{◌≡◌, ◌⊎◌, inl, inr, ◌<◌, ◌+◌, ◌^◌, ℕ, Bool, true, false, List, [], ◌∷◌, ◌++◌, Some, Ok, Err, length, take, drop, refl, ap, sym, ◌∙◌, subst, arith}
+use Rattle.std.specs.Result.{IsErrOf, OnErr}
+use Rattle.std.specs.declared.result.Result.{Result}
 use Rattle.std.proofs.lemmas.List.{append-nil, take_all}
 use Rattle.ld_disk.specs.Plain.{Plain, IsSound}
 use Rattle.ld_disk.specs.declared.disk.Disk.{Ghosts}
@@ -12,8 +14,14 @@ use Rattle.ld_register.specs.declared.disk.DiskRegister.{DiskRegister}
 use Rattle.ld_register.specs.Held.{owned, Tells, Foretells, IsQuiet, never_falls}
 use Rattle.ld_register.specs.Stands.{StandsFor}
 use Rattle.ld_records.specs.Growth.{Grows, IsAt}
+use Rattle.ld_records.specs.declared.records.RecordsFault.{RecordsFault}
+use Rattle.ld_records.specs.declared.records.RecordsFault.TheVariants as causes
+use Rattle.ld_register.specs.declared.fault.RegisterFault.{RegisterFault}
+use Rattle.ld_register.specs.declared.fault.RegisterFault.TheVariants as faults
 use Rattle.ld_shared.specs.Bodies.{bodies_of}
 use Rattle.ld_shared.specs.Fresh.{HasRead, IsCopyOf}
+use Rattle.ld_shared.specs.Holds.{OnlyMemory}
+use Rattle.ld_shared.specs.Says.{refusal}
 use Rattle.ld_shared.proofs.Growing.{at_below, bodies_more, grows_length, take_grows}
 
 pub none_read : (xs : List (List ℕ)) (bytes : List ℕ) → bytes ≡ [] → HasRead 0 xs bytes
@@ -55,3 +63,19 @@ read_length n m values bytes h all is = is ∙ ap length (h.bytes_are ∙ ap (λ
 
 pub sound_quiet : (p : Plain) → IsSound p → IsQuiet p
 sound_quiet p s = record { stands = s.stands; told = ap (λ a. never_falls a) s.told }
+
+-- ---- refusals of records to which nobody else appends ----
+
+abbrev pub cause_of : RecordsFault → Result Bool RecordsFault
+cause_of cause = Err cause
+
+-- a refusal that is passed on
+pub memory_passed : {T S : Type 0} (r : Result T RegisterFault) (f : RegisterFault) → IsErrOf r f → OnlyMemory (refusal {T = S} f) → OnlyMemory r
+memory_passed {S = S} r f is none = subst (λ o. OnlyMemory o) (sym is) (ap (λ e. refusal e) (one_fault {T = S} f faults.NoMemory none))
+  where
+    one_fault : {T : Type 0} (e d : RegisterFault) → refusal {T = T} e ≡ refusal {T = T} d → e ≡ d
+    one_fault e d same = cc
+
+pub only_memory : {T : Type 0} (cause : RecordsFault) (fault : RegisterFault) → (cause ≡ causes.NoMemory → fault ≡ faults.NoMemory)
+    → (cause_of cause ≡ Ok true) ⊎ (cause_of cause ≡ Ok false) ⊎ (cause_of cause ≡ Err causes.NoMemory) → OnlyMemory (refusal {T = T} fault)
+only_memory cause fault passed alone = elim alone [ inl e ↦ absurd (cc e) | inr rest ↦ (elim rest [ inl e ↦ absurd (cc e) | inr e ↦ ap (λ f. refusal f) (passed (cc e)) ]) ]

@@ -15,6 +15,7 @@ use Rattle.ld_shared.specs.Bodies.{bodies_of, body_in}
 use Rattle.ld_shared.specs.Says.{LeadTo, IsMade, Says, Answers, granting, values_of, owner_of}
 use Rattle.ld_shared.specs.Together.{Said, Changes, Stands, count_behind, InOrder, AreOf, User, IsNone, AreUsers, IsMerge, AreAllOf, AreAmong, AreCalls, IsOneMore}
 use Rattle.ld_shared.proofs.Growing.{at_grows, at_below, take_grows}
+use Rattle.ld_shared.proofs.Exact.{led_before}
 
 -- ---- what is said of records stands as they grow ----
 
@@ -179,18 +180,6 @@ together values (u ∷ us) m are =
     (r.0, (others.0, others.1, r.2), r.1)
 
 -- ---- a list of calls ----
-
-leads_split : (r : Register) (xs ys : List (List ℕ)) (c : Register) → Leads r (xs ++ ys) c → (b : Register) × Leads r xs b × Leads b ys c
-leads_split r [] ys c h = (r, refl, h)
-leads_split r (x ∷ xs) ys c (y, n, h) = let s = leads_split (changed r y) xs ys c h in (s.0, (y, n, s.1), s.2)
-
--- fewer records lead to contents too
-led_before : (k m : ℕ) (values : List (List ℕ)) (d : Register) → k ≤ m → LeadTo m values d → (e : Register) × LeadTo k values e
-led_before k m values d less h =
-    let parts : bodies_of (take m values) ≡ bodies_of (take k values) ++ bodies_of (drop k (take m values)) =
-    ap (λ l. bodies_of l) (sym (take-append-drop k (take m values))) ∙ map-append body_in (take k (take m values)) (drop k (take m values)) ∙ ap (λ l. bodies_of l ++ bodies_of (drop k (take m values))) (take-take k m values less) in
-    let s = leads_split empty_register (bodies_of (take k values)) (bodies_of (drop k (take m values))) d (subst (λ l. Leads empty_register l d) parts h) in
-    (s.0, s.1)
 
 -- the calls whose changes are the records between
 between : (values : List (List ℕ)) (n j k : ℕ) (b d : Register) → AreCalls values → k ≡ n + j → k ≤ length values → LeadTo n values b → LeadTo k values d → (xs : List Call) × Runs b xs d

@@ -74,6 +74,15 @@ AreAmong ss (x ∷ xs) = ((s : Said) × (more : List Said) × (ss ≡ s ∷ more
 abbrev pub AreCalls : List (List ℕ) → Type 0
 AreCalls values = (n : ℕ) → n < length values → (c d : Register) → LeadTo n values c → LeadTo (n + 1) values d → (x : Call) × Passes c x d
 
+-- the record of this number is the change of a call of the contents before it, answered or not
+pub record IsChangeAt (n : ℕ) (values : List (List ℕ)) : Type 0 where
+  pub before : Register
+  pub now : Register
+  pub call : Call
+  pub leads : LeadTo n values before
+  pub passes : Passes before call now
+  pub makes : LeadTo (n + 1) values now
+
 module _ {C : Type 0} (g : Ghosts C) where
   -- a call of a register is one more of its program's answered calls, behind those before
   abbrev pub IsOneMore : SharedRegister C → SharedRegister C → List (List ℕ) → List Said → Call → Type 0

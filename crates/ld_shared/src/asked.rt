@@ -1,7 +1,10 @@
 // What a register in memory answers to a call, and the record that its change is to be.
-ghost use Rattle.std.specs.Prelude.{◌≤◌, ◌⊎◌, List, ℕ, length, IfOk, IfErr, Ok, Err};
+ghost use Rattle.std.specs.Prelude.{◌≡◌, ◌≤◌, ◌⊎◌, List, ℕ, length, IfOk, IfErr, Ok, Err};
 ghost use Rattle.std.specs.Option.{option_map};
+ghost use Rattle.ld_msg.specs.Register.{Register as Contents, empty_register};
 ghost use Rattle.ld_register.specs.Calls.{IsFree};
+ghost use Rattle.ld_register.specs.Changes.{Leads};
+ghost use Rattle.ld_shared.specs.Bodies.{bodies_of};
 ghost use Rattle.ld_shared.specs.Fresh.{IsFresh};
 ghost use Rattle.ld_shared.specs.Says.{Says, Decided, refusal};
 
@@ -29,6 +32,8 @@ pub(crate) fn decided<T: Drop, Q: Question<T>>(
         → IfOk result (λ d. Decided values d.answer (option_map (λ v. v.items) d.body) (Q.answer question.now) (Q.after question.now)) }
     ensures refused { (own : List ℕ) (before values : List (List ℕ)) → IsFresh values fresh → length before ≤ length values
         → IfErr result (λ fault. IsFree (refusal {T = T} fault) ⊎ Says own before values (refusal {T = T} fault) (Q.answer question.now) (Q.after question.now)) }
+    ensures exact { (values : List (List ℕ)) (c : Contents) → IsFresh values fresh → Leads empty_register (bodies_of values) c
+        → IfErr result (λ fault. (fault ≡ RegisterFault.NoMemory) ⊎ ((refusal {T = T} fault ≡ Q.answer question.now c) × (Q.after question.now c ≡ c))) }
     ensures fits { IfOk result (λ d. Q.fits question.now (Ok d.answer)) }
     ensures unfit { IfErr result (λ fault. Q.fits question.now (Err fault)) }
 {

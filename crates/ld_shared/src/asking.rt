@@ -1,4 +1,5 @@
 // A call of a register as a value.
+ghost use Rattle.std.specs.Prelude.{◌≡◌, None};
 ghost use Rattle.std.specs.declared.result.Result.{Result as Outcome};
 ghost use Rattle.ld_msg.specs.Register.{Register as Contents};
 ghost use Rattle.ld_register.specs.Calls.{IsFree};
@@ -34,4 +35,7 @@ pub(crate) trait Question<T> {
 
     /// A refusal that may come at any point fits.
     ghost free_fits: { (q : Self) (r : Outcome T Refusal) → IsFree r → fits q r };
+
+    /// What contents with no armed fault answer is no refusal that may come at any point.
+    ghost is_told: { (q : Self) (c : Contents) → c.armed ≡ None → IsFree (answer q c) → ⊥ };
 }

@@ -1,9 +1,10 @@
 // The journal of bodies, on a disk in memory, and what a register appended to it.
-ghost use Rattle.std.specs.Prelude.{◌≡◌, ◌⊎◌, ◌<◌, ◌^◌, ◌++◌, List, ℕ, length, IfOk, IfSome, OnOk, OnErr, Ok, None};
+ghost use Rattle.std.specs.Prelude.{◌≡◌, ◌⊎◌, ◌<◌, ◌^◌, ◌++◌, List, ℕ, length, IfOk, IfSome, IsErrOf, OnOk, OnErr, Ok, None, Some, true};
 ghost use Rattle.ld_disk.specs.Memory.{disk_plain};
-ghost use Rattle.ld_disk.specs.Plain.{IsSound};
-ghost use Rattle.ld_journal.specs.Format.{framed};
+ghost use Rattle.ld_disk.specs.Plain.{IsSound, Plain, reads_fine};
+ghost use Rattle.ld_journal.specs.Format.{framed, IsCutShort};
 ghost use Rattle.ld_register.specs.Calls.{IsFree};
+ghost use Rattle.ld_shared.specs.Holds.{OnlyMemory};
 ghost use Rattle.ld_shared.specs.Says.{IsFreeFault};
 ghost use Rattle.ld_journal.specs.Rest.{IsParted, IsShut, BeginsWith};
 
@@ -45,6 +46,8 @@ pub(crate) fn disk_of(alloc: Global, bytes: &[u8]) -> Result<MemDisk, NoMemory>
 fn body_at<D: Disk>(alloc: Global, disk: &mut D, at: u64) -> Result<Option<Vec<u8>>, JournalFault>
     ensures found { IfOk result (λ found. IfSome found (λ body. (front rest : List ℕ) → IsParted D.seen disk.old at front rest → BeginsWith body.items rest)) }
     ensures ended { result ≡ Ok None → (front rest : List ℕ) → IsParted D.seen disk.old at front rest → IsShut rest }
+    ensures memory { (p : Plain) (front rest : List ℕ) → D.plain disk.old ≡ Some p → reads_fine p ≡ true → IsParted D.seen disk.old at front rest
+        → (IsCutShort rest → ⊥) → OnErr result (IsErrOf result JournalFault.NoMemory) }
 {
     let len = disk.len()?;
     let mut body = Vec::new(alloc);
@@ -63,6 +66,8 @@ pub(crate) fn appended<D: Disk>(
     ensures found { IfOk result (λ found. IfSome found (λ body. (front rest : List ℕ) → IsParted D.seen disk.old end front rest → BeginsWith body.items rest)) }
     ensures ended { result ≡ Ok None → (front rest : List ℕ) → IsParted D.seen disk.old end front rest → IsShut rest }
     ensures free { OnErr result (IsFree result) }
+    ensures memory { (p : Plain) (front rest : List ℕ) → D.plain disk.old ≡ Some p → reads_fine p ≡ true → IsParted D.seen disk.old end front rest
+        → (IsCutShort rest → ⊥) → OnlyMemory result }
 {
     match body_at(alloc, disk, end) {
         Ok(found) => Ok(found),
@@ -77,7 +82,8 @@ pub(crate) fn numbered<D: Disk + Drop>(
     disk: D,
     fault: RegisterFault,
 ) -> RegisterFault
-    ensures { (result ≡ fault) ⊎ IsFreeFault result }
+    ensures told { (result ≡ fault) ⊎ IsFreeFault result }
+    ensures same { (result ≡ fault) ⊎ ((place : ℕ) × (fault ≡ RegisterFault.Damaged place)) }
 {
     let RegisterFault::Damaged(place) = fault else {
         return fault;

@@ -1,17 +1,18 @@
 // What holds of the answered calls of all programs that share records.
-ghost use Rattle.std.specs.Prelude.{◌≡◌, ◌≤◌, ◌<◌, ◌++◌, ◌∷◌, ℕ, Bool, List, Option, Ok, Some, length};
+ghost use Rattle.std.specs.Prelude.{◌≡◌, ◌≤◌, ◌<◌, ◌++◌, ◌∷◌, [], ℕ, Bool, true, List, Option, Ok, Some, length};
 ghost use Rattle.ld_ids.specs.declared.set.Spec.{Spec};
 ghost use Rattle.ld_msg.specs.declared.msg.Summary.{Summary};
 ghost use Rattle.ld_msg.specs.Register.{Register as Contents, empty_register};
-ghost use Rattle.ld_records.specs.Growth.{Grows};
+ghost use Rattle.ld_records.specs.Growth.{Grows, IsAt};
 ghost use Rattle.ld_register.specs.Calls.{activated, after_activate, closed, after_close, drawn, after_draw, swapped, after_swap, looked};
 ghost use Rattle.ld_register.specs.Histories.{Call, Activates, Closes, Draws, Swaps, Looks, Runs};
 ghost use Rattle.ld_register.specs.declared.register.Grant.{Grant};
 ghost use Rattle.ld_register.specs.declared.register.Drawn.{Drawn};
 ghost use Rattle.ld_register.specs.declared.register.View.{View};
-ghost use Rattle.ld_shared.specs.Says.{Answers, LeadTo, values_of};
-ghost use Rattle.ld_shared.specs.Together.{Said, User, AreUsers, AreAllOf, AreAmong, AreCalls, InOrder, IsOneMore};
+ghost use Rattle.ld_shared.specs.Says.{Answers, IsLate, LeadTo, values_of};
+ghost use Rattle.ld_shared.specs.Together.{Said, Stands, User, AreUsers, AreAllOf, AreAmong, AreCalls, InOrder, IsChangeAt, IsOneMore};
 ghost use Rattle.ld_shared.specs.declared.shared.SharedRegister.{SharedRegister as Shared};
+ghost use Rattle.ld_shared.specs.declared.shared.Unsettled.{Unsettled};
 
 use ld_records::Records;
 
@@ -32,6 +33,22 @@ pub fn calls_are_in_order<C: Records>()
     ensures looks { (old new : Shared C) (values : List (List ℕ)) (calls : List Said) (l e : ℕ) (view : View)
         → Answers C.Records old new (Ok view) (λ c. Ok (looked c l e)) (λ c. c) → Grows (values_of C.Records new) values
         → IsOneMore C.Records old new values calls (Looks l e (Ok view)) }
+{}
+
+/// Records that such registers alone append are changes of calls: none is there at first, each further one is the change of
+/// an answered call, or of one whose outcome wasn't known and that was made later.
+pub fn records_are_calls()
+    ensures none { AreCalls [] }
+    ensures one_more { (values : List (List ℕ)) (value : List ℕ) → AreCalls values → IsChangeAt (length values) (values ++ value ∷ []) → AreCalls (values ++ value ∷ []) }
+    ensures answered { (values : List (List ℕ)) (s : Said) → Stands values s → s.makes ≡ true → IsChangeAt s.count values }
+    ensures activated { (own : List ℕ) (values : List (List ℕ)) (u : Unsettled) (spec : Spec)
+        → IsLate own values (λ c. after_activate c spec) u → IsAt u.number u.value.items values → IsChangeAt u.number values }
+    ensures closed { (own : List ℕ) (values : List (List ℕ)) (u : Unsettled) (l e : ℕ) (y : Summary) (short : Bool)
+        → IsLate own values (λ c. after_close c l e y short) u → IsAt u.number u.value.items values → IsChangeAt u.number values }
+    ensures drawn { (own : List ℕ) (values : List (List ℕ)) (u : Unsettled) (n : ℕ)
+        → IsLate own values (λ c. after_draw c n) u → IsAt u.number u.value.items values → IsChangeAt u.number values }
+    ensures swapped { (own : List ℕ) (values : List (List ℕ)) (u : Unsettled) (l upto member spare : ℕ)
+        → IsLate own values (λ c. after_swap c l upto member spare) u → IsAt u.number u.value.items values → IsChangeAt u.number values }
 {}
 
 /// The answered calls of all programs, none of which have the same mark, are one list in which those of each stand in its

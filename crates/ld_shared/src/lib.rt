@@ -10,6 +10,8 @@ mod mark;
 mod questions;
 mod shared;
 
-pub use laws::{calls_are_in_order, programs_agree, programs_share_one_register};
+pub use laws::{
+    calls_are_in_order, programs_agree, programs_share_one_register, records_are_calls,
+};
 pub use mark::Mark;
 pub use shared::SharedRegister;

@@ -16,6 +16,7 @@ impl<'a> Question<Grant> for Activation<'a> {
     ghost use Rattle.ld_register.specs.Calls.{activated, after_activate};
     ghost use Rattle.ld_shared.specs.Fits.{ActivationFits};
     ghost use Rattle.ld_shared.specs.Free.{activation_free};
+    ghost use Rattle.ld_shared.specs.Told.{activated_told};
 
     ghost is_valid = { λ q. IsSpec q.spec.now };
 
@@ -26,6 +27,8 @@ impl<'a> Question<Grant> for Activation<'a> {
     ghost fits = { λ q result. ActivationFits q.spec.now.log result };
 
     ghost free_fits = { λ q r free. activation_free _ r free };
+
+    ghost is_told = { λ q c none. activated_told c q.spec.now none };
 
     fn ask(&self, alloc: Global, copy: &mut Copy) -> Result<Grant, RegisterFault> {
         copy.activate(alloc, self.spec)
@@ -46,6 +49,7 @@ impl<'a> Question<Option<Spec>> for Closing<'a> {
     ghost use Rattle.ld_register.specs.Calls.{closed, after_close};
     ghost use Rattle.ld_shared.specs.Fits.{CloseFits};
     ghost use Rattle.ld_shared.specs.Free.{close_free};
+    ghost use Rattle.ld_shared.specs.Told.{closed_told};
 
     ghost is_valid = { λ q. IsSummary q.epoch q.summary.now };
 
@@ -56,6 +60,8 @@ impl<'a> Question<Option<Spec>> for Closing<'a> {
     ghost fits = { λ q result. CloseFits q.log q.summary.now.ballot q.short result };
 
     ghost free_fits = { λ q r free. close_free _ _ _ r free };
+
+    ghost is_told = { λ q c none. closed_told c q.log q.epoch q.summary.now q.short none };
 
     fn ask(&self, alloc: Global, copy: &mut Copy) -> Result<Option<Spec>, RegisterFault> {
         copy.close(alloc, self.log, self.epoch, self.summary, self.short)
@@ -72,6 +78,7 @@ impl Question<Drawn> for Drawing {
     ghost use Rattle.ld_register.specs.Calls.{drawn, after_draw};
     ghost use Rattle.ld_shared.specs.Fits.{DrawFits};
     ghost use Rattle.ld_shared.specs.Free.{draw_free};
+    ghost use Rattle.ld_shared.specs.Told.{drawn_told};
 
     ghost is_valid = { λ _. Unit {0} };
 
@@ -82,6 +89,8 @@ impl Question<Drawn> for Drawing {
     ghost fits = { λ _ result. DrawFits result };
 
     ghost free_fits = { λ _ r free. draw_free r free };
+
+    ghost is_told = { λ q c none. drawn_told c q.node none };
 
     fn ask(&self, alloc: Global, copy: &mut Copy) -> Result<Drawn, RegisterFault> {
         copy.draw(alloc, self.node)
@@ -101,6 +110,7 @@ impl Question<u32> for Swapping {
     ghost use Rattle.ld_register.specs.Calls.{swapped, after_swap};
     ghost use Rattle.ld_shared.specs.Fits.{SwapFits};
     ghost use Rattle.ld_shared.specs.Free.{swap_free};
+    ghost use Rattle.ld_shared.specs.Told.{swapped_told};
 
     ghost is_valid = { λ _. Unit {0} };
 
@@ -111,6 +121,8 @@ impl Question<u32> for Swapping {
     ghost fits = { λ _ result. SwapFits result };
 
     ghost free_fits = { λ _ r free. swap_free r free };
+
+    ghost is_told = { λ q c none. swapped_told c q.log q.upto q.member q.spare none };
 
     fn ask(&self, alloc: Global, copy: &mut Copy) -> Result<u32, RegisterFault> {
         copy.swap(alloc, self.log, self.upto, self.member, self.spare)
@@ -139,6 +151,8 @@ impl Question<View> for Looking {
     ghost fits = { λ q result. LookFits q.log q.e result };
 
     ghost free_fits = { λ q r free. look_free _ _ r free };
+
+    ghost is_told = { λ _ _ _ free. free };
 
     fn ask(&self, alloc: Global, copy: &mut Copy) -> Result<View, RegisterFault> {
         copy.look(alloc, self.log, self.e)

@@ -1,8 +1,9 @@
-use Rattle.std.proofs.Common.{◌∙◌, inl, inr, Ok}
+use Rattle.std.proofs.Common.{◌∙◌, inl, inr, refl, ap, sym, subst, Ok}
 use Rattle.ld_register.proofs.Committing.{err_of}
-use Rattle.ld_shared.specs.Says.{IsLate, owner_of, values_of}
+use Rattle.ld_shared.specs.Says.{IsLate, granting, refusal, owner_of, values_of}
 use Rattle.ld_shared.proofs.Growing.{grows_on, settled_grows, none_late}
 use Rattle.ld_shared.proofs.Meeting.{call_says, refusal_says, late_as, free_passed, fits_passed, tried_some, fits_some}
+use Rattle.ld_shared.proofs.Sole.{not_beaten, exact_never, exact_as, exact_of, exact_memory, stays_some, answers_some}
 use Rattle.ld_shared.proofs.shared.SharedRegister.call.Goals as goal
 
 pub returns-in_err-settle-clause-says : goal.returns-in_err-settle-clause-says
@@ -21,6 +22,7 @@ tries-init g c = record {
   before = c.in_ok-settle.ensures.settled.1;
   same_owner = c.settle.ensures.owner;
   same_faults = c.settle.ensures.faults;
+  alone = λ s. let a = c.in_ok-settle.ensures.alone s.1 in ((subst (λ r. g.C.Records.sole r) (sym a.records) s.0, a.unsettled), ap (λ r. g.C.Records.list r) a.records);
 }
 
 pub returns-in_err-answer-clause-grows : goal.returns-in_err-answer-clause-grows
@@ -60,7 +62,29 @@ tries-preserved g c = record {
   before = settled_grows c.args.self.now.unsettled (values_of g.C.Records c.tries.self) (values_of g.C.Records c.once.new.self) c.once.ensures.grows c.tries.invariant.before;
   same_owner = c.once.ensures.owner ∙ c.tries.invariant.same_owner;
   same_faults = c.once.ensures.faults ∙ c.tries.invariant.same_faults;
+  alone = λ s. absurd (not_beaten (values_of g.C.Records c.tries.self) (values_of g.C.Records c.once.new.self) c.in_ok-answer.field-0 c.in_default.is (c.in_ok-answer.ensures.alone (c.tries.invariant.alone s).0).1);
 }
 
 pub returns-clause-settles : goal.returns-clause-settles
 returns-clause-settles g c = inl (c.tries.invariant.before, none_late c.tries.self.unsettled (IsLate (owner_of c.args.self.now) (values_of g.C.Records c.tries.self) (g.Q.Question.after c.args.question.now)) c.tries.invariant.settled)
+
+pub returns-in_err-settle-clause-exact : goal.returns-in_err-settle-clause-exact
+returns-in_err-settle-clause-exact g c = exact_never g.C.Records _ _ _ _ _ (λ s. let e = (c.in_err-settle.ensures.alone s.1).answers in cc e)
+
+pub returns-in_err-answer-clause-exact : goal.returns-in_err-answer-clause-exact
+returns-in_err-answer-clause-exact g c =
+    let is = err_of c.from_residual-in_err-answer.result c.in_err-answer.field-0.0 c.from_residual-in_err-answer.ensures.1 in
+    exact_as g.C.Records c.args.self.now c.once.new.self _ _ (owner_of c.args.self.now) c.tries.self (refusal c.in_err-answer.field-0.0) c.from_residual-in_err-answer.result is
+    (g.met.Q.Question.is_told c.args.question.now) c.tries.invariant.alone c.in_err-answer.ensures.alone c.in_err-answer.ensures.exact
+    (returns-in_err-answer-clause-grows g c) (returns-in_err-answer-clause-says g c)
+
+pub returns-in-Some-clause-exact : goal.returns-in-Some-clause-exact
+returns-in-Some-clause-exact g c =
+    exact_of g.C.Records c.args.self.now c.once.new.self _ _ (owner_of c.args.self.now) c.tries.self (granting c.in-Some.answer)
+    (g.met.Q.Question.is_told c.args.question.now) c.tries.invariant.alone
+    (λ s. let a = c.in_ok-answer.ensures.alone s in (a.0, stays_some (values_of g.C.Records c.tries.self) (values_of g.C.Records c.once.new.self) c.in_ok-answer.field-0 c.in-Some.answer c.in-Some.is a.1))
+    (λ b h. answers_some (values_of g.C.Records c.once.new.self) c.in_ok-answer.field-0 c.in-Some.answer b (g.Q.Question.answer c.args.question.now) (g.Q.Question.after c.args.question.now) c.in-Some.is (c.in_ok-answer.ensures.exact b h))
+    (returns-in-Some-clause-grows g c) (returns-in-Some-clause-says g c)
+
+pub returns-clause-exact : goal.returns-clause-exact
+returns-clause-exact g c = exact_memory g.C.Records _ _ _ _ _ refl c.tries.invariant.alone

@@ -20,4 +20,4 @@ returns-in-Ok-Taken-clause-settled g c = (
 )
 
 pub returns-clause-refused : goal.returns-clause-refused
-returns-clause-refused g c = (c.refused.ensures, sym (sym c.take.ensures.value ∙ c.in-Some.is))
+returns-clause-refused g c = (c.refused.ensures.free, sym (sym c.take.ensures.value ∙ c.in-Some.is))

@@ -1,0 +1,5 @@
+use Rattle.std.proofs.Common.{◌≡◌}
+use Rattle.ld_etcd.proofs.http.read_response.Given as goal
+
+abbrev pub invariant-steps : goal.invariant-steps
+invariant-steps g l = g.M.Members.did l.members ≡ g.M.Members.did l.fn.members
