@@ -5,3 +5,4 @@ pub mod Hearing
 pub mod Looks
 pub mod Numbers
 pub mod Writing
+pub mod SameSpec

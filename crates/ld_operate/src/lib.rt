@@ -5,6 +5,7 @@ mod answers;
 mod asking;
 mod lines;
 mod looking;
+mod moving;
 mod nodes;
 mod output;
 mod parts;
@@ -12,6 +13,7 @@ mod registers;
 mod status;
 mod stop;
 
+pub use moving::moved_from;
 pub use registers::register_lines;
 pub use status::status_lines;
 pub use stop::{LookStop, StatusStop};
