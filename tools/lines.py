@@ -218,6 +218,8 @@ APPENDS = [
     ("--log 1 --port 1 --rounds 1 --log 1", ""),
     ("--log 1 --port 1 --rounds 1 --store s", ""),
     ("--log 1 --port 1 --rounds 1 --from e1n1 --until e1n1", ""),
+    ("--log 1 --port 1 --rounds 1 --move --move", ""),
+    ("--log 1 --port 1 --follow", ""),
 ]
 
 # The same of `tail` over log 1, behind its configuration, register, port and rounds.
@@ -231,8 +233,13 @@ TAILS = [
     ("--from e1n1 --until e4294967296n0", "--until isn't a number eXnY"),
     ("--from e01n1 --until e1n1", "--from isn't a number eXnY"),
     ("--from 1 --until e1n1", "--from isn't a number eXnY"),
-    ("--from e1n1", ""),
+    ("--from e1n1", "--until has no value"),
     ("--until e1n1", ""),
+    ("--from e1n1 --until e1n1 --follow", "--until and --follow can't be given at once"),
+    ("--from e1n1 --until e1n1 --pause 5", "--pause can't be given without --follow"),
+    ("--from e1n1 --follow --pause 0", "--pause isn't a number from 1 to 60000"),
+    ("--from e1n1 --follow --pause 60001", "--pause isn't a number from 1 to 60000"),
+    ("--from e0n0 --follow", "--from is e0n0 or above --until"),
     ("--from e1n1 --until e1n1 --from e1n1", ""),
     ("--from e1n1 --until e1n1 --log 1", ""),
 ]

@@ -6,7 +6,9 @@ use ld_cli::{Status, Which};
 use ld_config::{Config, ConfigFault};
 use ld_etcd::Cause;
 use ld_hints::explain;
+use ld_ids::Spec;
 use ld_real::Tried;
+use ld_text::{TextFault, payload_of};
 use ld_wire::WireFault;
 use ld_words::{Listen, Places, Reach, config_cause, reason};
 use std::io::{ErrorKind, Result};
@@ -22,6 +24,8 @@ pub struct Found<'a, 'b> {
     pub line: Option<&'b [u8]>,
     /// Whether that was read with the byte that ends it.
     pub is_ended: bool,
+    /// Whether the lines of the input are texts of payloads.
+    pub is_text: bool,
     /// The system's reason for the last failed call of the store's file.
     pub disk: Option<ErrorKind>,
     /// The system's reason for the last failed call of the register's file.
@@ -39,7 +43,7 @@ pub struct Found<'a, 'b> {
 }
 
 /// Writes a status to standard error that comes before anything is called, and its cause in plain words.
-pub fn tell_early(rt: &HostRuntime, words: &[String], status: Status) -> Result<()> {
+pub fn tell_early(rt: &HostRuntime, words: &[String], status: &Status) -> Result<()> {
     tell_status(rt, status)?;
     match status {
         Status::Usage => tell_usage(rt, words),
@@ -49,14 +53,14 @@ pub fn tell_early(rt: &HostRuntime, words: &[String], status: Status) -> Result<
 
 /// Writes to standard error that the store and the register are one file.
 pub fn tell_one_file(rt: &HostRuntime) -> Result<()> {
-    tell_status(rt, Status::Usage)?;
+    tell_status(rt, &Status::Usage)?;
     eprintln!(rt;
         "ld: --store and --register are the same file, or one is a symbolic link to a file that isn't there"
     )
 }
 
 /// Writes a status to standard error.
-pub fn tell_status(rt: &HostRuntime, status: Status) -> Result<()> {
+pub fn tell_status(rt: &HostRuntime, status: &Status) -> Result<()> {
     eprintln!(rt; "ld: status {}", status.code())
 }
 
@@ -65,7 +69,7 @@ fn tell_memory(rt: &HostRuntime) -> Result<()> {
 }
 
 /// Writes the status to standard error, and its cause in plain words.
-pub fn tell(rt: &HostRuntime, status: Status, found: &Found<'_, '_>) -> Result<()> {
+pub fn tell(rt: &HostRuntime, status: &Status, found: &Found<'_, '_>) -> Result<()> {
     tell_status(rt, status)?;
     if found.is_in_etcd && tell_etcd(rt, status, found)? {
         return Ok(());
@@ -73,7 +77,7 @@ pub fn tell(rt: &HostRuntime, status: Status, found: &Found<'_, '_>) -> Result<(
     match status {
         Status::Ok => Ok(()),
         Status::Usage => tell_usage(rt, found.words),
-        Status::BadSchedule { line, place } => tell_line(rt, line, place, found),
+        Status::BadSchedule { line, place } => tell_line(rt, *line, *place, found),
         Status::NoMemory => tell_memory(rt),
         Status::Read => eprintln!(rt; "ld: reading standard input failed"),
         Status::Write => eprintln!(rt; "ld: writing standard output failed"),
@@ -84,12 +88,12 @@ pub fn tell(rt: &HostRuntime, status: Status, found: &Found<'_, '_>) -> Result<(
         ),
         Status::Register => tell_register(rt, found),
         Status::Link => tell_link(rt, found),
-        Status::BadFrame(fault) => tell_frame(rt, fault),
+        Status::BadFrame(fault) => tell_frame(rt, *fault),
         Status::Damaged { which, place } => eprintln!(rt;
             "ld: {} place {place}: {} isn't a {} of this program, or is damaged",
-            name_of(which),
-            file_of(which, found.places),
-            name_of(which)
+            name_of(*which),
+            file_of(*which, found.places),
+            name_of(*which)
         ),
         Status::Blank => eprintln!(rt;
             "ld: the store's file {} isn't formatted: is it the right one? --format formats it, for a node that has kept nothing yet",
@@ -97,7 +101,7 @@ pub fn tell(rt: &HostRuntime, status: Status, found: &Found<'_, '_>) -> Result<(
         ),
         Status::JournalFull(which) => eprintln!(rt;
             "ld: the {}'s journal is full: it has at most 2^40 bytes",
-            name_of(which)
+            name_of(*which)
         ),
         Status::GenLimit => {
             eprintln!(rt; "ld: this node was formatted 2^32-1 times, which is all that there are")
@@ -111,7 +115,29 @@ pub fn tell(rt: &HostRuntime, status: Status, found: &Found<'_, '_>) -> Result<(
         ),
         Status::EpochLimit => eprintln!(rt; "ld: the log's epochs are used up"),
         Status::EpochFull => eprintln!(rt; "ld: the epoch is full: it has 2^32-2 places"),
+        Status::Moves { from, to } => tell_move(rt, from, to),
     }
+}
+
+/// Tells that an `append` would move its log.
+fn tell_move(rt: &HostRuntime, from: &Spec, to: &Spec) -> Result<()> {
+    eprint!(rt; "ld: the log's greatest epoch has")?;
+    tell_spec(rt, from)?;
+    eprint!(rt; ", and the configuration says")?;
+    tell_spec(rt, to)?;
+    eprintln!(rt; ": with --move the next epoch has what the configuration says")
+}
+
+/// Tells the nodes, the replication factor and the extras of a log.
+fn tell_spec(rt: &HostRuntime, spec: &Spec) -> Result<()> {
+    let mut before = " set ";
+    for place in 0..spec.set.len() {
+        if let Some(node) = spec.set.nth(place) {
+            eprint!(rt; "{before}{}", node.number())?;
+            before = ",";
+        }
+    }
+    eprint!(rt; " r {} extras {}", spec.r, spec.extras)
 }
 
 /// The journal by its name.
@@ -134,8 +160,8 @@ fn file_of<'a>(which: Which, places: &'a Places) -> &'a str {
 const USAGE: &str = "ld: usage: ld replay < SCHEDULE
 ld:        ld exercise --seed N --events M
 ld:        ld node --id N --config TEXT --store FILE --register FILE (--port P | --listen HOST:PORT) (--turns K | --peers N [--idle S] [--turns K]) [--format]
-ld:        ld append --config TEXT --log L --register FILE (--port P | --at TEXT) --rounds K [--limit MS] [--batches] < PAYLOADS
-ld:        ld tail --config TEXT --log L --register FILE (--port P | --at TEXT) --rounds K [--limit MS] --from LSN --until LSN [--one-copy | --messages]
+ld:        ld append --config TEXT --log L --register FILE (--port P | --at TEXT) --rounds K [--limit MS] [--batches] [--move] [--text] < PAYLOADS
+ld:        ld tail --config TEXT --log L --register FILE (--port P | --at TEXT) [--limit MS] --from LSN (--until LSN --rounds K | --follow [--pause MS] [--rounds K]) [--one-copy | --messages] [--text | --json]
 ld:        ld register --config TEXT --log L --register FILE [--from E]
 ld:        ld status --config TEXT --log L --register FILE (--port P | --at TEXT) [--limit MS] [--epochs K]";
 
@@ -234,9 +260,14 @@ fn tell_nodes(rt: &HostRuntime, found: &Found<'_, '_>) -> Result<()> {
 fn tell_waiting(rt: &HostRuntime, words: &[String]) -> Result<()> {
     eprintln!(rt; "ld: not done in these rounds, though no call to a node failed")?;
     if is_command(words, "tail") {
+        let until = word_behind(words, "--until");
+        let upto = if until.is_empty() {
+            ""
+        } else {
+            ", up to --until "
+        };
         return eprintln!(rt;
-            "ld: awaited are the numbers from the last one on standard output, or where there is none from --from, up to --until {}: they aren't released yet, or never were appended. Where all nodes were started again since the last append, nobody tells what was released: an `ld append` without input closes the epoch, and then its records can be read",
-            word_behind(words, "--until")
+            "ld: awaited are the numbers from the last one on standard output, or where there is none from --from{upto}{until}: they aren't released yet, or never were appended. Where all nodes were started again since the last append, nobody tells what was released: an `ld append` without input closes the epoch, and then its records can be read"
         );
     }
     eprintln!(rt; "ld: too few nodes have stored what isn't acknowledged; more --rounds may help")
@@ -300,8 +331,25 @@ fn end_reason(place: u64, found: &Found<'_, '_>) -> Option<&'static str> {
     None
 }
 
+/// Tells which line is the text of no payload, and where.
+fn tell_text(rt: &HostRuntime, line: u64, found: &Found<'_, '_>) -> Result<()> {
+    let Some(bytes) = found.line else {
+        return eprintln!(rt; "ld: line {line}: this is no payload's text");
+    };
+    match payload_of(rt.alloc(), bytes) {
+        Err(TextFault::Bad(place)) => eprintln!(rt;
+            "ld: line {line} place {place}: in a payload's text \\n, \\r and \\\\ are the bytes 10, 13 and 92, and \\x with two digits 0 to 9 and a to f is a byte that is no part of a UTF-8 character"
+        ),
+        _ if !found.is_ended => eprintln!(rt; "ld: line {line}: the last line has no newline"),
+        _ => eprintln!(rt; "ld: line {line}: a payload has at most 65535 bytes"),
+    }
+}
+
 /// Tells which line has a syntax error, where it is, and how such a line is spelt.
 fn tell_line(rt: &HostRuntime, line: u64, place: u64, found: &Found<'_, '_>) -> Result<()> {
+    if found.is_text {
+        return tell_text(rt, line, found);
+    }
     if let Some(reason) = end_reason(place, found) {
         return eprintln!(rt; "ld: line {line} place {place}: {reason}");
     }

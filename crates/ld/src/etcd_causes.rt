@@ -5,7 +5,7 @@ use ld_etcd::{Cause, PlaceFault};
 use std::io::Result;
 
 /// Tells why the register in etcd failed, or which record is none. False where the status is no fault of it.
-pub fn tell_etcd(rt: &HostRuntime, status: Status, found: &Found<'_, '_>) -> Result<bool> {
+pub fn tell_etcd(rt: &HostRuntime, status: &Status, found: &Found<'_, '_>) -> Result<bool> {
     let name = found.places.register.as_str();
     match status {
         Status::Register => {
@@ -17,6 +17,7 @@ pub fn tell_etcd(rt: &HostRuntime, status: Status, found: &Found<'_, '_>) -> Res
             which: Which::Register,
             place,
         } => {
+            let place = *place;
             eprintln!(rt;
                 "ld: register place {place}: the record {place:016x} of {name} isn't one of a register of this program, or is damaged"
             )?;

@@ -5,20 +5,24 @@ mod causes;
 mod crowds;
 mod etcd_causes;
 mod files;
+mod guard;
 mod places;
 mod reasons;
 mod registers;
+mod texts;
 
 use causes::{Found, tell, tell_early, tell_not_listening, tell_one_file, tell_status};
 use crowds::{gathering, is_by_port};
 use etcd_causes::{tell_no_mark, tell_place};
 use files::{are_one_file, store_of};
+use guard::held_back;
 use ld_cli::{Status, run};
 use ld_dial::Framed;
 use ld_etcd::{Cause, PlaceFault, place_of};
 use ld_hints::Recent;
-use ld_io::Source;
+use ld_ready::Ready;
 use ld_real::{Announced, AnnouncedCrowd, FileDisk, StdSink, StdSource, TcpCrowd, TcpLink, Tried};
+use ld_text::{Form, ShownSink, TextSource};
 use ld_words::{FileName, Listen, Places, Reach, places};
 use places::{addresses_of, dialing, listening, listening_text};
 use registers::NamedRegister;
@@ -26,6 +30,7 @@ use std::io::{Error, ErrorKind, IsTerminal, writer};
 use std::process::ExitCode;
 use std::rt::Stderr;
 use std::time::Duration;
+use texts::forms_of;
 
 fn main(rt: HostRuntime) -> ExitCode {
     let status = match words_of(&rt) {
@@ -48,7 +53,7 @@ fn without_words(rt: &HostRuntime, error: &Error) -> Status {
 /// Tells a status that comes before anything is called.
 fn ends_early(rt: &HostRuntime, words: &[String], status: Status) -> Status {
     // Where standard error can't be written, there is nobody left to tell.
-    let _ = tell_early(rt, words, status);
+    let _ = tell_early(rt, words, &status);
     status
 }
 
@@ -87,14 +92,21 @@ struct Failures {
 
 /// Carries out what the arguments name, and tells the status where it isn't Ok.
 fn carry_out(rt: &HostRuntime, words: &[String], places: &Places) -> Status {
-    let mut input = Recent::new(rt.alloc(), StdSource::new(rt.reader()));
-    let (status, failures) = match call(rt, words, places, &mut input) {
+    let forms = forms_of(rt.alloc(), words);
+    let lines = Recent::new(rt.alloc(), StdSource::standard(rt.stdin()));
+    let Ok(mut input) = TextSource::new(rt.alloc(), lines, forms.is_text) else {
+        return ends_early(rt, words, Status::NoMemory);
+    };
+    let (status, failures) = match call(rt, words, places, forms.shown, &mut input) {
         Ok(ended) => ended,
         Err(status) => return status,
     };
     if status != Status::Ok {
-        let (line, is_ended) = match status {
-            Status::BadSchedule { line, .. } => (input.line(line), input.is_ended(line)),
+        let (line, is_ended) = match &status {
+            Status::BadSchedule { line, .. } => {
+                let lines = input.inner();
+                (lines.line(*line), lines.is_ended(*line))
+            }
             _ => (None, false),
         };
         let found = Found {
@@ -102,6 +114,7 @@ fn carry_out(rt: &HostRuntime, words: &[String], places: &Places) -> Status {
             places,
             line,
             is_ended,
+            is_text: forms.is_text,
             disk: failures.disk,
             register: failures.register,
             is_in_etcd: failures.is_in_etcd,
@@ -110,16 +123,17 @@ fn carry_out(rt: &HostRuntime, words: &[String], places: &Places) -> Status {
             port: failures.port,
             nodes: failures.nodes,
         };
-        let _ = tell(rt, status, &found);
+        let _ = tell(rt, &status, &found);
     }
     status
 }
 
 /// Makes what the arguments name, and calls the top call. An error is a status that came before the call, and was told.
-fn call<I: Source>(
+fn call<I: Ready>(
     rt: &HostRuntime,
     words: &[String],
     places: &Places,
+    shown: Form,
     input: &mut I,
 ) -> Result<(Status, Failures), Status> {
     let alloc = rt.alloc();
@@ -139,7 +153,7 @@ fn call<I: Source>(
     let (address, company) = match gathering(rt, places) {
         Ok(found) => found,
         Err(error) => {
-            let _ = tell_status(rt, Status::Link);
+            let _ = tell_status(rt, &Status::Link);
             let _ = tell_not_listening(rt, &places.listen, Some(error.kind()));
             return Err(Status::Link);
         }
@@ -150,18 +164,21 @@ fn call<I: Source>(
     let mut register = register_of(rt, places.register.as_str())?;
     let dialing = dialing(&places.reach, &addresses);
     let mut nodes = Framed::new(alloc, TcpLink::dialing(rt, dialing, places.limit));
-    let mut out = StdSink::new(writer(rt));
-    let status = run(
-        alloc,
-        words,
-        input,
-        &mut out,
-        &mut disk,
-        &mut register,
-        &mut link,
-        &mut nodes,
-        &mut crowd,
-    );
+    let mut out = ShownSink::new(alloc, StdSink::new(writer(rt)), shown);
+    let status = match held_back(alloc, words, &mut register) {
+        Some(status) => status,
+        None => run(
+            alloc,
+            words,
+            input,
+            &mut out,
+            &mut disk,
+            &mut register,
+            &mut link,
+            &mut nodes,
+            &mut crowd,
+        ),
+    };
     let failures = Failures {
         disk: disk.cause(),
         register: register.file_cause(),
@@ -193,7 +210,7 @@ fn register_of<'a>(rt: &'a HostRuntime, name: &'a str) -> Result<NamedRegister<'
         Ok(None) => return Ok(NamedRegister::file(rt, name)),
         Err(PlaceFault::NoMemory) => return Err(ends_early(rt, &[], Status::NoMemory)),
         Err(fault) => {
-            let _ = tell_status(rt, Status::Usage);
+            let _ = tell_status(rt, &Status::Usage);
             let _ = tell_place(rt, fault);
             return Err(Status::Usage);
         }
@@ -201,7 +218,7 @@ fn register_of<'a>(rt: &'a HostRuntime, name: &'a str) -> Result<NamedRegister<'
     match NamedRegister::etcd(rt, place) {
         Ok(register) => Ok(register),
         Err(_) => {
-            let _ = tell_status(rt, Status::Register);
+            let _ = tell_status(rt, &Status::Register);
             let _ = tell_no_mark(rt);
             Err(Status::Register)
         }

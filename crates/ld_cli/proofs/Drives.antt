@@ -89,6 +89,7 @@ disk_stays before now P first last (statuses.Preempted by) e same = same
 disk_stays before now P first last statuses.LogLimit e same = same
 disk_stays before now P first last statuses.EpochLimit e same = same
 disk_stays before now P first last statuses.EpochFull e same = same
+disk_stays before now P first last (statuses.Moves from to) e same = same
 
 append_read : (crowded : Type 0) (damaged : ℕ → Type 0) (i : Option Input) (reads reads_now writes writes_now : ℕ) (old new : Option (List ℕ)) → IsEndOfAppend crowded damaged i reads reads_now writes writes_now old new ends.Read → Rose reads reads_now
 append_read crowded damaged i reads reads_now writes writes_now old new (inl start) = absurd start.said

@@ -1,6 +1,6 @@
 -- The payloads of an input, a line at a time.
 use Rattle.std.proofs.Common.{◌≡◌, ◌≢◌, inl, inr, ◌≤◌, ◌<◌, ◌+◌, ◌&&◌, nat_le, ℕ, Bool, true, false, List, [], ◌∷◌, ◌++◌, length, Option, None, Some, Ok, Err, refl, sym, ap, ◌∙◌, subst, arith, if◌then◌else◌, append_assoc, suc, map, ◌==◌}
-use Rattle.std.specs.Prelude.{Result}
+use Rattle.std.specs.Prelude.{Result, IfSome}
 use Rattle.std.specs.Io.KnownBytes.{prepend_known, Consumes, IsAtEnd}
 use Rattle.std.proofs.lemmas.Bool.{ne_eqb, le-leb, cases_eq}
 use Rattle.std.proofs.lemmas.Bool.Decides.{nat_tests}
@@ -10,6 +10,7 @@ use Rattle.std.proofs.lemmas.List.Elements.{All-nil, All-cons, All-head, All-tai
 use Rattle.hex.specs.Hex.{decode_of}
 use Rattle.hex.specs.declared.error.FromHexError.{FromHexError}
 use Rattle.hex.proofs.HexLemmas.{decode_of-encode_lower, decode_of-ok}
+use Rattle.ld_io.specs.Memory.{is_listed}
 use Rattle.ld_table.specs.Named.{same}
 use Rattle.ld_table.proofs.NameLaws.{same-true, same-self}
 use Rattle.ld_lsn.specs.Text.{Lacks}
@@ -23,7 +24,7 @@ use Rattle.ld_rounds.specs.Input.{Input, all_taken, Gives}
 use Rattle.ld_rounds.specs.Input as inputs
 use Rattle.ld_rounds.specs.declared.payloads.InputFault.{InputFault}
 use Rattle.ld_rounds.specs.declared.payloads.InputFault.TheVariants as faults
-use Rattle.ld_cli.specs.Payloads.{batch_payload, IsBatchLine, Spells, IsUnspelt, decoded, bytes_in, single_in, parts_from, messages_in, batch_in, payload_in, counted, cut_at, with_line, input_from, input_after, payloads_in}
+use Rattle.ld_cli.specs.Payloads.{batch_payload, IsBatchLine, Spells, IsUnspelt, decoded, bytes_in, single_in, parts_from, messages_in, batch_in, payload_in, counted, cut_at, with_line, input_from, input_after, line_ready, payloads_in}
 
 -- ---- a line ----
 
@@ -285,3 +286,15 @@ nothing_read batches (Some x) = refl
 pub nothing_held : (batches kind : Bool) (k : ℕ) (held : List ℕ) (a : Option (List ℕ)) → kind ≡ batches → k ≡ 0 → held ≡ [] → input_after kind k (prepend_known held a) ≡ payloads_in batches a
 nothing_held batches kind k held a s e h =
     ap (λ b. input_after b k (prepend_known held a)) s ∙ (ap (λ n. input_after batches n (prepend_known held a)) e ∙ (ap (λ l. input_after batches 0 (prepend_known l a)) h ∙ nothing_read batches a))
+
+-- ---- whether a line is there ----
+
+pub ready_held : (bytes : List ℕ) (o : Option Bool) (b : Bool) → b ≡ is_listed 10 bytes → b ≡ true → IfSome (line_ready bytes o) (λ is_ready. true ≡ is_ready)
+ready_held bytes None b h t = tt
+ready_held bytes (Some true) b h t = refl
+ready_held bytes (Some false) b h t = sym t ∙ h
+
+pub ready_read : (bytes : List ℕ) (o : Option Bool) (b result : Bool) → b ≡ is_listed 10 bytes → b ≡ false → IfSome o (λ is_ready. result ≡ is_ready) → IfSome (line_ready bytes o) (λ is_ready. result ≡ is_ready)
+ready_read bytes None b result h f s = tt
+ready_read bytes (Some true) b result h f s = s
+ready_read bytes (Some false) b result h f s = s ∙ (sym f ∙ h)

@@ -23,3 +23,4 @@ code (statuses.Preempted by) = 16
 code statuses.LogLimit = 17
 code statuses.EpochLimit = 18
 code statuses.EpochFull = 19
+code (statuses.Moves from to) = 22

@@ -1,7 +1,8 @@
 -- The payloads that the lines of an input spell.
-use Rattle.std.specs.Prelude.{ℕ, ◌≡◌, ◌+◌, ◌-◌, ◌^◌, ◌==◌, ◌&&◌, nat_le, min, if◌then◌else◌, Bool, true, false, List, [], ◌∷◌, ◌++◌, map, replicate, length, Option, None, Some, Result, Ok, Err}
+use Rattle.std.specs.Prelude.{ℕ, ◌≡◌, ◌+◌, ◌-◌, ◌^◌, ◌==◌, ◌&&◌, ◌||◌, nat_le, min, if◌then◌else◌, Bool, true, false, List, [], ◌∷◌, ◌++◌, map, replicate, length, Option, None, Some, Result, Ok, Err}
 use Rattle.hex.specs.Hex.{decode_of}
 use Rattle.hex.specs.declared.error.FromHexError.{FromHexError}
+use Rattle.ld_io.specs.Memory.{is_listed}
 use Rattle.ld_table.specs.Named.{same}
 use Rattle.ld_ids.specs.Bytes.{AreBytes, hex_text}
 use Rattle.ld_batch.specs.Batch.{batch_limit, packed}
@@ -99,6 +100,11 @@ input_from batches number line (b ∷ bytes) =
 abbrev pub input_after : Bool → ℕ → Option (List ℕ) → Option Input
 input_after batches number None = None
 input_after batches number (Some bytes) = Some (input_from batches (counted number) [] bytes)
+
+-- whether the next line is had without a wait: the input doesn't wait, or these bytes that were read of it hold a whole one
+abbrev pub line_ready : List ℕ → Option Bool → Option Bool
+line_ready bytes None = None
+line_ready bytes (Some ready) = Some (ready || is_listed 10 bytes)
 
 -- what an input spells: each line a payload, or the messages of a batch
 abbrev pub payloads_in : Bool → Option (List ℕ) → Option Input

@@ -9,7 +9,7 @@ ghost use Rattle.ld_machine.specs.Step.{spec_set};
 ghost use Rattle.ld_dial.specs.Far.{Far};
 ghost use Rattle.ld_words.specs.Bounds.{IsTailInBounds, IsLogInBounds};
 ghost use Rattle.ld_rounds.specs.Drives.{IsBroken};
-ghost use Rattle.ld_rounds.specs.Endings.{IsOffAs};
+ghost use Rattle.ld_rounds.specs.Endings.{IsOffAs, IsEndedOff};
 ghost use Rattle.ld_append.specs.Acting.{HoldsSome, LacksRoom, IsSpecOf, IsUnset, MayCrowd};
 ghost use Rattle.std.specs.Io.KnownBytes.{prepend_known};
 ghost use Rattle.ld_rounds.specs.Reaching.{Begins};
@@ -24,7 +24,8 @@ use ld_append::append;
 use ld_clients::find_spec;
 use ld_dial::Nodes;
 use ld_ids::{Name, NoMemory, Spec};
-use ld_io::{Sink, Source};
+use ld_io::Sink;
+use ld_ready::Ready;
 use ld_register::Register;
 use ld_rounds::{Ended, Refusal};
 use ld_serve::Which;
@@ -75,7 +76,7 @@ fn status_of(ended: Ended, before: u64, now: u64) -> Status
 }
 
 /// Appends the payloads of the lines to the log of this spec, and says how that ended.
-fn append_lines<I: Source, O: Sink, G: Register, N: Nodes>(
+fn append_lines<I: Ready, O: Sink, G: Register, N: Nodes>(
     alloc: Global,
     words: &LogWords,
     spec: &Spec,
@@ -95,6 +96,7 @@ fn append_lines<I: Source, O: Sink, G: Register, N: Nodes>(
     ensures refused { EndsDrive (N.faults nodes.old) (N.faults nodes.new)
         (IsRefused (λ place. G.told reg.old → G.damaged reg.old place) (G.told reg.old → HoldsSome (G.holds reg.old) × LacksRoom (G.holds reg.new)) (G.faults reg.old) (G.faults reg.new)) result }
     ensures off { EndsDrive (N.faults nodes.old) (N.faults nodes.new) (IsOffAs (N.off nodes.new)) result }
+    ensures ended { EndsDrive (N.faults nodes.old) (N.faults nodes.new) (IsEndedOff (N.off nodes.old) (N.off nodes.new)) result }
 {
     let before = nodes.failures();
     let (ended, _) = append(
@@ -102,7 +104,7 @@ fn append_lines<I: Source, O: Sink, G: Register, N: Nodes>(
         &words.config,
         spec,
         name,
-        u64::from(words.rounds),
+        words.rounds,
         &mut *reg,
         nodes,
         lines,
@@ -113,7 +115,7 @@ fn append_lines<I: Source, O: Sink, G: Register, N: Nodes>(
 }
 
 /// Appends the payloads of the input, or the batches of its messages, to the log that the arguments name.
-pub(crate) fn appended<I: Source, O: Sink, G: Register, N: Nodes>(
+pub(crate) fn appended<I: Ready, O: Sink, G: Register, N: Nodes>(
     alloc: Global,
     words: &AppendWords,
     input: &mut I,
@@ -130,6 +132,7 @@ pub(crate) fn appended<I: Source, O: Sink, G: Register, N: Nodes>(
     ensures refused { EndsDrive (N.faults nodes.old) (N.faults nodes.new)
         (IsRefused (λ place. G.told reg.old → G.damaged reg.old place) (G.told reg.old → HoldsSome (G.holds reg.old) × LacksRoom (G.holds reg.new)) (G.faults reg.old) (G.faults reg.new)) result }
     ensures off { EndsDrive (N.faults nodes.old) (N.faults nodes.new) (IsOffAs (N.off nodes.new)) result }
+    ensures ended { EndsDrive (N.faults nodes.old) (N.faults nodes.new) (IsEndedOff (N.off nodes.old) (N.off nodes.new)) result }
 {
     let Ok(name) = name_of(alloc, b's') else {
         return Status::NoMemory;
@@ -163,6 +166,7 @@ pub(crate) fn tailed<O: Sink, G: Register, N: Nodes>(
         (IsTailEnd (λ place. G.told reg.old → G.damaged reg.old place) (G.faults reg.old) (G.faults reg.new) (O.faults out.old) (O.faults out.new)) result }
     ensures only_looks { OnlyLooks (G.told reg.old) (G.told reg.new) (G.may_hold reg.old) (G.may_hold reg.new) }
     ensures off { EndsDrive (N.faults nodes.old) (N.faults nodes.new) (IsOffAs (N.off nodes.new)) result }
+    ensures ended { EndsDrive (N.faults nodes.old) (N.faults nodes.new) (IsEndedOff (N.off nodes.old) (N.off nodes.new)) result }
 {
     let Ok(name) = name_of(alloc, b'r') else {
         return Status::NoMemory;
@@ -176,7 +180,8 @@ pub(crate) fn tailed<O: Sink, G: Register, N: Nodes>(
         words.from,
         words.until,
         words.style,
-        u64::from(words.of.rounds),
+        words.of.rounds,
+        words.pause,
         &mut *reg,
         nodes,
         out,

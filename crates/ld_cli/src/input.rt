@@ -3,6 +3,7 @@ ghost use Rattle.std.specs.Prelude.{◌≡◌, ◌+◌, ◌<◌, ◌≤◌, List
 ghost use Rattle.std.specs.Io.KnownBytes.{prepend_known, Consumes, Keeps, IsAtEnd};
 ghost use Rattle.ld_io.specs.Causes.{HasCause};
 ghost use Rattle.ld_io.specs.Input.{left_in};
+ghost use Rattle.ld_io.specs.Memory.{is_listed};
 ghost use Rattle.ld_cli.specs.Input.{budget};
 
 use ld_io::{Failed, Source};
@@ -74,6 +75,13 @@ impl Buffer {
         self.at = 0;
         self.end = count;
         Ok(count > 0)
+    }
+
+    /// Whether the byte is among those that are held.
+    pub fn holds(&self, byte: u8) -> bool
+        ensures { result ≡ is_listed byte self.now }
+    {
+        self.chunk[self.at..self.end].contains(&byte)
     }
 
     /// Takes the first of the bytes that are held.

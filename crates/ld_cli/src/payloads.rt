@@ -1,12 +1,12 @@
 // The payloads that the lines of the input spell.
-ghost use Rattle.std.specs.Prelude.{◌≡◌, ◌≤◌, [], true, false, IfOk, IfErr, MatchResult};
+ghost use Rattle.std.specs.Prelude.{◌≡◌, ◌≤◌, [], true, false, IfOk, IfErr, IfSome, MatchResult};
 ghost use Rattle.std.specs.Io.KnownBytes.{prepend_known};
 ghost use Rattle.ld_io.specs.Input.{left_of};
 ghost use Rattle.ld_ids.specs.Bytes.{AreBytes, hex_text};
 ghost use Rattle.ld_schedule.specs.Reading.{IsText};
 ghost use Rattle.ld_schedule.specs.Grammar.{IsBatch, messages_text};
 ghost use Rattle.ld_rounds.specs.Input.{Gives, IsReadFault};
-ghost use Rattle.ld_cli.specs.Payloads.{batch_payload, IsBatchLine, Spells, IsUnspelt, input_after};
+ghost use Rattle.ld_cli.specs.Payloads.{batch_payload, IsBatchLine, Spells, IsUnspelt, input_after, line_ready};
 
 use crate::input::Buffer;
 use crate::lines::{Ending, LONGEST, next_line};
@@ -14,6 +14,7 @@ use crate::status::Stop;
 use ld_batch::Messages;
 use ld_ids::{NoMemory, Payload};
 use ld_io::Source;
+use ld_ready::Ready;
 use ld_rounds::{InputFault, Payloads};
 use ld_schedule::{LineFault, parse_messages, parse_payload};
 use std::alloc::Global;
@@ -34,7 +35,7 @@ pub(crate) struct Held {
 /// The lines of an input, each of which is to spell a payload, or the messages of a batch. It owns no memory, so that the input
 /// is seen to come back.
 #[derive(Drop)]
-pub(crate) struct PayloadLines<'a, I: Source> {
+pub(crate) struct PayloadLines<'a, I: Ready> {
     pub(crate) held: &'a mut Held,
     pub(crate) input: &'a mut I,
 }
@@ -153,12 +154,22 @@ impl Held {
             Err(_) => Err(InputFault::NoMemory),
         }
     }
+
+    /// Whether a whole line is held, or the next read wouldn't wait. One that is begun is waited for.
+    fn is_ready<I: Ready>(&self, input: &I) -> bool
+        ensures { IfSome (line_ready self.now.buffer (I.ready input.now)) (λ is_ready. result ≡ is_ready) }
+    {
+        if self.buffer.holds(b'\n') {
+            return true;
+        }
+        input.is_ready()
+    }
 }
 
-impl<'a, I: Source> Payloads for PayloadLines<'a, I> {
+impl<'a, I: Ready> Payloads for PayloadLines<'a, I> {
     ghost use Rattle.std.specs.Io.KnownBytes.{prepend_known};
     ghost use Rattle.ld_io.specs.Input.{left_of};
-    ghost use Rattle.ld_cli.specs.Payloads.{input_after};
+    ghost use Rattle.ld_cli.specs.Payloads.{input_after, line_ready};
 
     ghost coming = { λ p. input_after p.held.now.batches p.held.now.number (prepend_known p.held.now.buffer (left_of (I.known p.input.now) (I.gave p.input.now))) };
 
@@ -166,7 +177,13 @@ impl<'a, I: Source> Payloads for PayloadLines<'a, I> {
 
     ghost identity = { λ p. p.input.ghost_name };
 
+    ghost ready = { λ p. line_ready p.held.now.buffer (I.ready p.input.now) };
+
     fn next(&mut self, alloc: Global) -> Result<Option<Payload>, InputFault> {
         self.held.next(alloc, self.input)
+    }
+
+    fn is_ready(&self) -> bool {
+        self.held.is_ready(&*self.input)
     }
 }

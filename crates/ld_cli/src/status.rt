@@ -3,6 +3,7 @@ ghost use Rattle.std.specs.Prelude.{◌≡◌};
 ghost use Rattle.ld_cli.specs.declared.status.Stop.TheVariants.{NoMemory as Memory};
 ghost use Rattle.ld_cli.specs.Code.{code};
 
+use ld_ids::Spec;
 use ld_serve::Which;
 use ld_wire::WireFault;
 use std::alloc::{AllocError, AllocFailed};
@@ -49,6 +50,8 @@ pub enum Status {
     EpochLimit,
     /// The offsets of the sequencer's epoch are used up.
     EpochFull,
+    /// The log would move: of its greatest epoch the register says the first, and the configuration says the second.
+    Moves { from: Spec, to: Spec },
 }
 
 impl Status {
@@ -76,6 +79,7 @@ impl Status {
             Status::LogLimit => 17,
             Status::EpochLimit => 18,
             Status::EpochFull => 19,
+            Status::Moves { .. } => 22,
         }
     }
 }

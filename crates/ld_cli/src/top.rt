@@ -24,7 +24,7 @@ ghost use Rattle.ld_machine.specs.State.{State};
 ghost use Rattle.ld_machine.specs.Step.{spec_set};
 ghost use Rattle.ld_dial.specs.Far.{Far};
 ghost use Rattle.ld_rounds.specs.Drives.{IsBroken};
-ghost use Rattle.ld_rounds.specs.Endings.{IsOffAs};
+ghost use Rattle.ld_rounds.specs.Endings.{IsOffAs, IsEndedOff};
 ghost use Rattle.ld_rounds.specs.Reaching.{Begins};
 ghost use Rattle.ld_append.specs.Acting.{MayCrowd, HoldsSome, LacksRoom};
 ghost use Rattle.ld_append.specs.Appends.{HasNone as HasNoSequencers, IsAppended, IsEndOfAppend, IsRefused};
@@ -49,8 +49,9 @@ use crate::status::Status;
 use ld_crowd::Crowd;
 use ld_dial::Nodes;
 use ld_disk::Disk;
-use ld_io::{Sink, Source};
+use ld_io::Sink;
 use ld_link::Link;
+use ld_ready::Ready;
 use ld_register::Register;
 use ld_words::{Command, read};
 use std::alloc::Global;
@@ -58,7 +59,7 @@ use std::alloc::Global;
 /// Runs the command that the arguments name: a schedule from the input to the output, a made schedule to the output, a node
 /// over the disk, the register and the link, or a sequencer or a reader over the register and the nodes. What a command has
 /// no use for isn't called.
-pub fn run<I: Source, O: Sink, D: Disk, G: Register, L: Link, N: Nodes, C: Crowd>(
+pub fn run<I: Ready, O: Sink, D: Disk, G: Register, L: Link, N: Nodes, C: Crowd>(
     alloc: Global,
     words: &[String],
     input: &mut I,
@@ -164,8 +165,10 @@ pub fn run<I: Source, O: Sink, D: Disk, G: Register, L: Link, N: Nodes, C: Crowd
     ensures append_refused { (w : AppendWanted) → Asks (map string_bytes words.now) (Append w) → EndsDrive (N.faults nodes.old) (N.faults nodes.new)
         (IsRefused (λ place. G.told reg.old → G.damaged reg.old place) (G.told reg.old → HoldsSome (G.holds reg.old) × LacksRoom (G.holds reg.new)) (G.faults reg.old) (G.faults reg.new)) result }
 
-    // BadFrame comes of these two only by the fault that the nodes found in the bytes of the one that was dialed last.
+    // BadFrame comes of these two only by the fault that the nodes found in the bytes of the one that was dialed last, and it comes
+    // wherever they found one.
     ensures off { (asked : Wish) → Asks (map string_bytes words.now) asked → Drives asked → EndsDrive (N.faults nodes.old) (N.faults nodes.new) (IsOffAs (N.off nodes.new)) result }
+    ensures ended { (asked : Wish) → Asks (map string_bytes words.now) asked → Drives asked → EndsDrive (N.faults nodes.old) (N.faults nodes.new) (IsEndedOff (N.off nodes.old) (N.off nodes.new)) result }
 
     // Each of these statuses comes only where the count of that object rose; at any other the last three stay.
     ensures read { result ≡ Status.Read → Rose (I.faults input.old) (I.faults input.new) }
@@ -194,7 +197,7 @@ pub fn run<I: Source, O: Sink, D: Disk, G: Register, L: Link, N: Nodes, C: Crowd
 }
 
 /// Runs a command.
-fn carry_out<I: Source, O: Sink, D: Disk, G: Register, L: Link, N: Nodes, C: Crowd>(
+fn carry_out<I: Ready, O: Sink, D: Disk, G: Register, L: Link, N: Nodes, C: Crowd>(
     alloc: Global,
     command: Command,
     input: &mut I,
@@ -250,6 +253,7 @@ fn carry_out<I: Source, O: Sink, D: Disk, G: Register, L: Link, N: Nodes, C: Cro
     ensures append_refused { (w : AppendWanted) → command ≡ Append w → EndsDrive (N.faults nodes.old) (N.faults nodes.new)
         (IsRefused (λ place. G.told reg.old → G.damaged reg.old place) (G.told reg.old → HoldsSome (G.holds reg.old) × LacksRoom (G.holds reg.new)) (G.faults reg.old) (G.faults reg.new)) result }
     ensures off { Drives command → EndsDrive (N.faults nodes.old) (N.faults nodes.new) (IsOffAs (N.off nodes.new)) result }
+    ensures ended { Drives command → EndsDrive (N.faults nodes.old) (N.faults nodes.new) (IsEndedOff (N.off nodes.old) (N.off nodes.new)) result }
     ensures read { result ≡ Status.Read → Rose (I.faults input.old) (I.faults input.new) }
     ensures write { result ≡ Status.Write → Rose (O.faults out.old) (O.faults out.new) }
     ensures disk { DiskFaults (D.faults disk.old) (D.faults disk.new) result }

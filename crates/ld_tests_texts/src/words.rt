@@ -64,7 +64,7 @@ fn of_log(kind: u64, words: &LogWords, style: u64, from: u64, until: u64) -> [u6
         kind,
         u64::from(words.log.number()),
         of_reach(&words.reach),
-        u64::from(words.rounds),
+        words.rounds,
         style,
         from,
         until,
@@ -87,7 +87,13 @@ fn of_command(command: &Option<Command>) -> [u64; 7] {
         Some(Command::Exercise { seed, events }) => [2, *seed, u64::from(*events), 0, 0, 0, 0],
         Some(Command::Node(node)) => of_node(node),
         Some(Command::Crowd(words)) => of_crowd(words),
-        Some(Command::Append(words)) => of_log(4, &words.of, u64::from(words.batches), 0, 0),
+        Some(Command::Append(words)) => of_log(
+            4,
+            &words.of,
+            u64::from(words.batches),
+            u64::from(words.moves),
+            0,
+        ),
         Some(Command::Tail(words)) => of_log(
             5,
             &words.of,
@@ -117,6 +123,15 @@ fn of_command(command: &Option<Command>) -> [u64; 7] {
     }
 }
 
+/// How long a reader rests at most between two rounds; 0 for another command.
+fn pause_of(alloc: Global, line: &str) -> Result<u32, Fail> {
+    let words = words_of(alloc, line)?;
+    match read(alloc, &words)? {
+        Some(Command::Tail(words)) => Ok(words.pause),
+        _ => Ok(0),
+    }
+}
+
 /// The numbers of the command that the line asks for.
 fn asked(alloc: Global, line: &str) -> Result<[u64; 7], Fail> {
     let words = words_of(alloc, line)?;
@@ -140,6 +155,30 @@ const REGISTER: &str =
 
 const STATUS: &str =
     "status --config {\"nodes\":[1],\"logs\":[{\"id\":7,\"set\":[1],\"r\":1}]} --register r --log 7 --port 7000";
+
+const FOLLOW: &str =
+    "tail --config {\"nodes\":[1],\"logs\":[{\"id\":1,\"set\":[1],\"r\":1}]} --register r --log 1 --port 7000 --from e0n1 --follow";
+
+#[test]
+fn words_ask_to_follow(rt: HostRuntime) -> Result<(), Fail> {
+    let most = u64::MAX;
+    for (more, expected, pause) in [
+        ("", [5, 1, 7_000, most, 0, 1, most], 1_000),
+        (
+            " --rounds 3 --pause 60000",
+            [5, 1, 7_000, 3, 0, 1, most],
+            60_000,
+        ),
+        (" --pause 0", [0, 0, 0, 0, 0, 0, 0], 0),
+        (" --until e1n1", [0, 0, 0, 0, 0, 0, 0], 0),
+    ] {
+        let mut words = FOLLOW.to_string(rt.alloc())?;
+        words.push_str(more)?;
+        assert_eq!(rt; asked(rt.alloc(), words.as_str())?, expected);
+        assert_eq!(rt; pause_of(rt.alloc(), words.as_str())?, pause);
+    }
+    Ok(())
+}
 
 #[test]
 fn words_ask_for_crowds_and_looks(rt: HostRuntime) -> Result<(), Fail> {

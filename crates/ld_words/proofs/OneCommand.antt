@@ -1,6 +1,6 @@
 -- Words ask for at most one command.
 use Rattle.std.proofs.Common.{◌≡◌, ◌≤◌, ◌^◌, ◌-◌, ◌+◌, ◌*◌, ◌∙◌, List, None, Some, Ok, ℕ, Bool, refl, ap, ap₂, sym, subst, arith, codes, decimal}
-use Rattle.std.specs.Prelude.{Option, MatchOption, slice_index}
+use Rattle.std.specs.Prelude.{Option, MatchOption, MatchBool, true, false, slice_index}
 use Rattle.std.proofs.lemmas.Fmt.{decimal_injective}
 use Rattle.clap.specs.Walk.{Row, Text, first_of}
 use Rattle.serde_json.specs.Read.{read}
@@ -12,6 +12,7 @@ use Rattle.ld_words.specs.declared.command.NodeWords.{NodeWords}
 use Rattle.ld_msg.specs.declared.style.Style.{Style}
 use Rattle.ld_words.specs.declared.command.LogWords.{LogWords}
 use Rattle.ld_words.specs.declared.command.AppendWords.{AppendWords}
+use Rattle.ld_words.specs.declared.command.Shown.{Shown}
 use Rattle.ld_words.specs.declared.command.TailWords.{TailWords}
 use Rattle.ld_words.specs.declared.command.Company.{Company}
 use Rattle.ld_words.specs.declared.command.CrowdWords.{CrowdWords}
@@ -24,7 +25,7 @@ use Rattle.ld_words.specs.declared.address.Reach.{Reach}
 use Rattle.ld_words.specs.declared.address.Reach.TheVariants as reaches
 use Rattle.ld_words.specs.declared.command.Command.{Command}
 use Rattle.ld_words.specs.declared.command.Command.TheVariants.{Replay, Exercise, Node, Crowd, Append, Tail, Register, Status}
-use Rattle.ld_words.specs.Meaning.{Is, IsNumber, IsLsn, IsConfig, Says, IsMember, IsLogOf, AreFiles, IsNodeWords, IsLogWords, IsAppendWords, IsRange, IsTailWords, IsTurns, IsInTurn, IsCrowdWords, IsRegisterWords, IsStatusWords, IsListen, IsReach, Spells, IsNumberOr, IsNamed, Asks, ArePlacesOf, HasNoPlaces, AskForPlaces, AskForNoPlaces}
+use Rattle.ld_words.specs.Meaning.{Is, IsNumber, IsLsn, IsConfig, Says, IsMember, IsLogOf, AreFiles, IsNodeWords, IsLogWords, IsAppendWords, IsRange, IsTailWords, IsInTurn, IsCrowdWords, IsRegisterWords, IsStatusWords, IsUntil, follows, IsAbsent, IsListen, IsReach, Spells, IsNumberOr, IsNamed, Asks, ArePlacesOf, HasNoPlaces, AskForPlaces, AskForNoPlaces}
 use Rattle.ld_words.proofs.OneAddress.{one_at}
 
 -- an argument has one value
@@ -125,7 +126,6 @@ log_in rows log text config w number is says words =
     let y = one_config _ rows w.config config words.config (record { text = text; is = is; says = says }) in
     subst (λ l. IsLogOf l config) x (subst (λ c. IsLogOf w.log c) y words.known)
 
--- a text that says no configuration, and a number that is no log of its configuration, are of no log's words
 -- the same of the register's words
 log_told : (rows : List Row) (log : ℕ) (text : Text) (config : Config) (r : RegisterWords) → IsNumber (codes "log") rows 1 65535 log
     → Is (codes "config") rows text → Says text config → IsRegisterWords rows r → IsLogOf log config
@@ -162,6 +162,7 @@ no_status_reach rows text config is says s words none =
     let same = one_config _ rows s.config config words.config (record { text = text; is = is; says = says }) in
     none s.reach (subst (λ c. IsReach rows c.nodes s.reach) same words.reach)
 
+-- a text that says no configuration, and a number that is no log of its configuration, are of no log's words
 pub no_log_config : (rows : List Row) (text : Text) → Is (codes "config") rows text → (w : LogWords) → IsLogWords rows w → ((c : Config) → Says text c → ⊥) → ⊥
 no_log_config rows text is w words none = none w.config (says_of rows text w.config is words.config)
 
@@ -176,16 +177,33 @@ no_log_reach rows text config is says w words none =
     let same = one_config _ rows w.config config words.config (record { text = text; is = is; says = says }) in
     none w.reach (subst (λ c. IsReach rows c.nodes w.reach) same words.reach)
 
+-- whether the log is followed or not, there is one number of rounds, one last number and one pause
+one_round : (rows : List Row) (b : Bool) (m n : ℕ)
+    → MatchBool b (IsNumberOr (codes "rounds") rows 1 1000000 (2 ^ 64 - 1) m) (IsNumber (codes "rounds") rows 1 1000000 m)
+    → MatchBool b (IsNumberOr (codes "rounds") rows 1 1000000 (2 ^ 64 - 1) n) (IsNumber (codes "rounds") rows 1 1000000 n) → m ≡ n
+one_round rows true m n x y = one_of _ 1 1000000 (2 ^ 64 - 1) m n (omega arith) x y
+one_round rows false m n x y = one_number _ rows 1 1000000 m n (omega arith) x y
+
+one_until : (rows : List Row) (b : Bool) (m n : ℕ) → MatchBool b (IsAbsent (codes "until") rows × (m ≡ 2 ^ 64 - 1)) (IsLsn (codes "until") rows m)
+    → MatchBool b (IsAbsent (codes "until") rows × (n ≡ 2 ^ 64 - 1)) (IsLsn (codes "until") rows n) → m ≡ n
+one_until rows true m n x y = x.1 ∙ sym y.1
+one_until rows false m n x y = one_lsn _ rows m n x y
+
+one_pause : (rows : List Row) (b : Bool) (m n : ℕ) → MatchBool b (IsNumberOr (codes "pause") rows 1 60000 1000 m) (IsAbsent (codes "pause") rows × (m ≡ 0))
+    → MatchBool b (IsNumberOr (codes "pause") rows 1 60000 1000 n) (IsAbsent (codes "pause") rows × (n ≡ 0)) → m ≡ n
+one_pause rows true m n x y = one_of _ 1 60000 1000 m n (omega arith) x y
+one_pause rows false m n x y = x.1 ∙ sym y.1
+
 -- the arguments' first and last number are in the order of each range that they say
 pub first_of_range : (rows : List Row) (v first last : ℕ) → IsLsn (codes "from") rows v → IsRange rows first last → 1 ≤ v
 first_of_range rows v first last x range =
     let e = one_lsn _ rows first v range.from x in
     omega (arith, e, range.some)
 
-pub last_of_range : (rows : List Row) (v w first last : ℕ) → IsLsn (codes "from") rows v → IsLsn (codes "until") rows w → IsRange rows first last → v ≤ w
+pub last_of_range : (rows : List Row) (v w first last : ℕ) → IsLsn (codes "from") rows v → IsUntil rows w → IsRange rows first last → v ≤ w
 last_of_range rows v w first last x y range =
     let e = one_lsn _ rows first v range.from x in
-    let f = one_lsn _ rows last w range.until y in
+    let f = one_until rows (follows rows) last w range.until y in
     omega (arith, e, f, range.order)
 
 log_of : Config → ℕ → Text → Reach → ℕ → ℕ → LogWords
@@ -204,29 +222,41 @@ one_log rows a b x y =
     (one_number _ rows 1 65535 a.log b.log (omega arith) x.log y.log)
     (one_text _ rows a.register b.register x.register y.register)
     (one_reach rows b.config.nodes a.reach b.reach (subst (λ c. IsReach rows c.nodes a.reach) configs x.reach) y.reach)
-    (one_number _ rows 1 1000000 a.rounds b.rounds (omega arith) x.rounds y.rounds)
+    (one_round rows (follows rows) a.rounds b.rounds x.rounds y.rounds)
     (one_of _ 100 60000 10000 a.limit b.limit (omega arith) x.limit y.limit)
 
-one_append : (rows : List Row) (a b : AppendWords) → IsAppendWords rows a → IsAppendWords rows b → a ≡ b
-one_append rows a b x y = ap₂ (λ w s. record { of = w; batches = s }) (one_log rows a.of b.of x.of y.of) (x.batches ∙ sym y.batches)
+three : {A B C X : Type 0} (f : A → B → C → X) (a b : A) (c d : B) (g h : C) → a ≡ b → c ≡ d → g ≡ h → f a c g ≡ f b d h
+three f a b c d g h e1 e2 e3 = cc
 
-tail_of : LogWords → ℕ → ℕ → Style → TailWords
-tail_of w first last style = record { of = w; from = first; until = last; style = style }
+append_of : LogWords → Bool → Bool → Bool → AppendWords
+append_of w batches moves text = record { of = w; batches = batches; moves = moves; text = text }
 
-fourfold : {A B C X : Type 0} (f : A → B → B → C → X) (a b : A) (c d g h : B) (i j : C) → a ≡ b → c ≡ d → g ≡ h → i ≡ j → f a c g i ≡ f b d h j
+fourfold : {A B X : Type 0} (f : A → B → B → B → X) (a b : A) (c d g h i j : B) → a ≡ b → c ≡ d → g ≡ h → i ≡ j → f a c g i ≡ f b d h j
 fourfold f a b c d g h i j e1 e2 e3 e4 = cc
 
-one_style : (o : Option Style) (a b : Style) → o ≡ Some a → o ≡ Some b → a ≡ b
-one_style o a b x y = let e : Some a ≡ Some b = sym x ∙ y in cc
+one_append : (rows : List Row) (a b : AppendWords) → IsAppendWords rows a → IsAppendWords rows b → a ≡ b
+unfolding append_of
+one_append rows a b x y = fourfold append_of a.of b.of a.batches b.batches a.moves b.moves a.text b.text (one_log rows a.of b.of x.of y.of) (x.batches ∙ sym y.batches) (x.moves ∙ sym y.moves) (x.text ∙ sym y.text)
+
+tail_of : LogWords → ℕ → ℕ → Style → ℕ → Shown → TailWords
+tail_of w first last style pause shown = record { of = w; from = first; until = last; style = style; pause = pause; shown = shown }
+
+tailed : {A B C D X : Type 0} (f : A → B → B → C → B → D → X) (a b : A) (c d g h : B) (i j : C) (k l : B) (m n : D) → a ≡ b → c ≡ d → g ≡ h → i ≡ j → k ≡ l → m ≡ n → f a c g i k m ≡ f b d h j l n
+tailed f a b c d g h i j k l m n e1 e2 e3 e4 e5 e6 = cc
+
+one_some : {A : Type 0} (o : Option A) (a b : A) → o ≡ Some a → o ≡ Some b → a ≡ b
+one_some o a b x y = let e : Some a ≡ Some b = sym x ∙ y in cc
 
 one_tail : (rows : List Row) (a b : TailWords) → IsTailWords rows a → IsTailWords rows b → a ≡ b
 unfolding tail_of
 one_tail rows a b x y =
-    fourfold tail_of a.of b.of a.from b.from a.until b.until a.style b.style
+    tailed tail_of a.of b.of a.from b.from a.until b.until a.style b.style a.pause b.pause a.shown b.shown
     (one_log rows a.of b.of x.of y.of)
     (one_lsn _ rows a.from b.from x.range.from y.range.from)
-    (one_lsn _ rows a.until b.until x.range.until y.range.until)
-    (one_style _ a.style b.style x.style y.style)
+    (one_until rows (follows rows) a.until b.until x.range.until y.range.until)
+    (one_some _ a.style b.style x.style y.style)
+    (one_pause rows (follows rows) a.pause b.pause x.pause y.pause)
+    (one_some _ a.shown b.shown x.shown y.shown)
 
 one_crowd : (rows : List Row) (a b : CrowdWords) → IsCrowdWords rows a → IsCrowdWords rows b → a ≡ b
 one_crowd rows a b x y =

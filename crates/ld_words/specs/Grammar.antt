@@ -41,20 +41,20 @@ node_shape = record (new_shape (codes "node")) {
 abbrev pub log_shape : Text → Shape
 log_shape name = record (new_shape name) {
   rules = option_rule (codes "config") ∷ option_rule (codes "log") ∷ option_rule (codes "register")
-      ∷ choice_rule (codes "port") ∷ choice_rule (codes "at") ∷ option_rule (codes "rounds") ∷ choice_rule (codes "limit") ∷ [];
+      ∷ choice_rule (codes "port") ∷ choice_rule (codes "at") ∷ choice_rule (codes "limit") ∷ [];
 }
 
 abbrev pub append_shape : Shape
 append_shape = record (new_shape (codes "append")) {
   rules = option_rule (codes "config") ∷ option_rule (codes "log") ∷ option_rule (codes "register")
-      ∷ choice_rule (codes "port") ∷ choice_rule (codes "at") ∷ option_rule (codes "rounds") ∷ choice_rule (codes "limit") ∷ flag_rule (codes "batches") ∷ [];
+      ∷ choice_rule (codes "port") ∷ choice_rule (codes "at") ∷ choice_rule (codes "limit") ∷ option_rule (codes "rounds") ∷ flag_rule (codes "batches") ∷ flag_rule (codes "move") ∷ flag_rule (codes "text") ∷ [];
 }
 
 abbrev pub tail_shape : Shape
 tail_shape = record (new_shape (codes "tail")) {
   rules = option_rule (codes "config") ∷ option_rule (codes "log") ∷ option_rule (codes "register")
-      ∷ choice_rule (codes "port") ∷ choice_rule (codes "at") ∷ option_rule (codes "rounds") ∷ choice_rule (codes "limit") ∷ option_rule (codes "from") ∷ option_rule (codes "until")
-      ∷ flag_rule (codes "one-copy") ∷ flag_rule (codes "messages") ∷ [];
+      ∷ choice_rule (codes "port") ∷ choice_rule (codes "at") ∷ choice_rule (codes "limit") ∷ choice_rule (codes "rounds") ∷ option_rule (codes "from") ∷ choice_rule (codes "until")
+      ∷ choice_rule (codes "pause") ∷ flag_rule (codes "follow") ∷ flag_rule (codes "one-copy") ∷ flag_rule (codes "messages") ∷ flag_rule (codes "text") ∷ flag_rule (codes "json") ∷ [];
 }
 
 -- the command that tells what the register says of a log

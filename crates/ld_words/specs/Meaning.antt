@@ -1,5 +1,5 @@
 -- What the arguments ask for.
-use Rattle.std.specs.Prelude.{◌≡◌, ◌≢◌, ◌≤◌, ◌<◌, ◌^◌, ◌-◌, ◌==◌, ◌&&◌, ◌||◌, ◌⊎◌, nat_le, ℕ, List, [], ◌∷◌, ◌++◌, length, codes, decimal, Bool, true, false, Option, None, Some, Ok, MatchOption}
+use Rattle.std.specs.Prelude.{◌≡◌, ◌≢◌, ◌≤◌, ◌<◌, ◌^◌, ◌-◌, ◌==◌, ◌&&◌, ◌||◌, ◌⊎◌, nat_le, ℕ, List, [], ◌∷◌, ◌++◌, length, codes, decimal, Bool, true, false, Option, None, Some, Ok, MatchOption, MatchBool}
 use Rattle.std.specs.Str.{IsUtf8, bytes_eq}
 use Rattle.std.specs.Net.Grammar.{IsSocketText}
 use Rattle.std.specs.Net.Socket.{socket_port}
@@ -20,6 +20,8 @@ use Rattle.ld_msg.specs.declared.style.Style.{Style}
 use Rattle.ld_msg.specs.declared.style.Style.TheVariants.{EachCopy, OneCopy, OfMessages}
 use Rattle.ld_words.specs.declared.command.LogWords.{LogWords}
 use Rattle.ld_words.specs.declared.command.AppendWords.{AppendWords}
+use Rattle.ld_words.specs.declared.command.Shown.{Shown}
+use Rattle.ld_words.specs.declared.command.Shown.TheVariants as shown
 use Rattle.ld_words.specs.declared.command.TailWords.{TailWords}
 use Rattle.ld_words.specs.declared.command.CrowdWords.{CrowdWords}
 use Rattle.ld_words.specs.declared.command.RegisterWords.{RegisterWords}
@@ -205,25 +207,43 @@ pub record IsCrowdWords (rows : List Row) (c : CrowdWords) : Type 0 where
   pub peers : IsNumber (codes "peers") rows 2 1000 c.company.peers
   pub idle : IsNumberOr (codes "idle") rows 1 86400 60 c.company.idle
 
+-- whether a reader follows a log, which has no last number then
+abbrev pub follows : List Row → Bool
+follows rows = is_true (first_of (codes "follow") rows)
+
+-- after how many rounds the command gives up; one that follows may have 2^64-1 of them
+abbrev pub IsRounds : List Row → ℕ → Type 0
+IsRounds rows rounds = MatchBool (follows rows) (IsNumberOr (codes "rounds") rows 1 1000000 (2 ^ 64 - 1) rounds) (IsNumber (codes "rounds") rows 1 1000000 rounds)
+
 pub record IsLogWords (rows : List Row) (w : LogWords) : Type 0 where
   pub config : IsConfig (codes "config") rows w.config
   pub log : IsNumber (codes "log") rows 1 65535 w.log
   pub known : IsLogOf w.log w.config
   pub register : Is (codes "register") rows w.register
   pub reach : IsReach rows w.config.nodes w.reach
-  pub rounds : IsNumber (codes "rounds") rows 1 1000000 w.rounds
+  pub rounds : IsRounds rows w.rounds
   pub limit : IsNumberOr (codes "limit") rows 100 60000 10000 w.limit
+
+-- the last number that is read, which one that follows isn't told
+abbrev pub IsUntil : List Row → ℕ → Type 0
+IsUntil rows last = MatchBool (follows rows) (IsAbsent (codes "until") rows × (last ≡ 2 ^ 64 - 1)) (IsLsn (codes "until") rows last)
+
+-- how long a reader that follows rests at most between two rounds: a second where the argument isn't given
+abbrev pub IsPause : List Row → ℕ → Type 0
+IsPause rows pause = MatchBool (follows rows) (IsNumberOr (codes "pause") rows 1 60000 1000 pause) (IsAbsent (codes "pause") rows × (pause ≡ 0))
 
 -- the first and the last number that are read: the first is above e0n0, and the last isn't below it
 pub record IsRange (rows : List Row) (first last : ℕ) : Type 0 where
   pub from : IsLsn (codes "from") rows first
-  pub until : IsLsn (codes "until") rows last
+  pub until : IsUntil rows last
   pub some : 1 ≤ first
   pub order : first ≤ last
 
 pub record IsAppendWords (rows : List Row) (w : AppendWords) : Type 0 where
   pub of : IsLogWords rows w.of
   pub batches : w.batches ≡ is_true (first_of (codes "batches") rows)
+  pub moves : w.moves ≡ is_true (first_of (codes "move") rows)
+  pub text : w.text ≡ is_true (first_of (codes "text") rows)
 
 -- one copy is asked for, or messages, or none of both; not both
 abbrev pub style_of : Bool → Bool → Option Style
@@ -232,10 +252,19 @@ style_of true false = Some OneCopy
 style_of false true = Some OfMessages
 style_of true true = None
 
+-- texts are asked for, or objects, or none of both; not both
+abbrev pub shown_of : Bool → Bool → Option Shown
+shown_of false false = Some shown.Lines
+shown_of true false = Some shown.Text
+shown_of false true = Some shown.Json
+shown_of true true = None
+
 pub record IsTailWords (rows : List Row) (t : TailWords) : Type 0 where
   pub of : IsLogWords rows t.of
   pub range : IsRange rows t.from t.until
   pub style : style_of (is_true (first_of (codes "one-copy") rows)) (is_true (first_of (codes "messages") rows)) ≡ Some t.style
+  pub pause : IsPause rows t.pause
+  pub shown : shown_of (is_true (first_of (codes "text") rows)) (is_true (first_of (codes "json") rows)) ≡ Some t.shown
 
 -- the first epoch that is told is 1 where the argument isn't given
 pub record IsRegisterWords (rows : List Row) (r : RegisterWords) : Type 0 where

@@ -75,8 +75,9 @@ pub struct LogWords {
     pub register: FileName,
     /// Where the configuration's nodes are.
     pub reach: Reach,
-    /// After how many rounds the command gives up, 1 to 1,000,000.
-    pub rounds: u32,
+    /// After how many rounds the command gives up: 1 to 1,000,000, or 2^64-1 where a reader follows the log and the arguments
+    /// don't say it.
+    pub rounds: u64,
     /// How many milliseconds a dial, a read or a write takes at most, 100 to 60,000.
     pub limit: u32,
 }
@@ -88,6 +89,22 @@ pub struct AppendWords {
     pub of: LogWords,
     /// Whether each line is the messages of a batch, with commas between them.
     pub batches: bool,
+    /// Whether the log may move: whether the configuration may name other nodes than the log's greatest epoch has, another
+    /// replication factor, or another number of extras.
+    pub moves: bool,
+    /// Whether each line is the text of a payload, and not its bytes in hexadecimal digits.
+    pub text: bool,
+}
+
+/// How what a reader gets is written.
+#[derive(Clone, Copy)]
+pub enum Shown {
+    /// As the lines of a transcript.
+    Lines,
+    /// As the texts of payloads.
+    Text,
+    /// As an object a line.
+    Json,
 }
 
 /// What the arguments say of a log that is read, and which records of it.
@@ -97,10 +114,15 @@ pub struct TailWords {
     pub of: LogWords,
     /// The first number that is read, from e0n1 on.
     pub from: Lsn,
-    /// The last number that is read, which isn't below the first.
+    /// The last number that is read, which isn't below the first; the greatest one where the log is followed.
     pub until: Lsn,
     /// How payloads come, and are written.
     pub style: Style,
+    /// How many milliseconds pass at most between two rounds of which the first gave nothing: 1 to 60,000 where the log is
+    /// followed, otherwise 0.
+    pub pause: u32,
+    /// How records and gaps are written.
+    pub shown: Shown,
 }
 
 /// What the arguments say of a log of which the register is asked.

@@ -78,7 +78,6 @@ fn log_command<'a>(alloc: Global, name: &'a str) -> Result<Command<'a>, AllocErr
         .arg(option(alloc, "register"))?
         .arg(choice(alloc, "port"))?
         .arg(choice(alloc, "at"))?
-        .arg(option(alloc, "rounds"))?
         .arg(choice(alloc, "limit"))
 }
 
@@ -86,7 +85,11 @@ fn log_command<'a>(alloc: Global, name: &'a str) -> Result<Command<'a>, AllocErr
 fn append_command<'a>(alloc: Global) -> Result<Command<'a>, AllocError>
     ensures { IfOk result (IsCommand append_shape) }
 {
-    log_command(alloc, "append")?.arg(flag(alloc, "batches"))
+    log_command(alloc, "append")?
+        .arg(option(alloc, "rounds"))?
+        .arg(flag(alloc, "batches"))?
+        .arg(flag(alloc, "move"))?
+        .arg(flag(alloc, "text"))
 }
 
 /// The command that reads a log.
@@ -94,10 +97,15 @@ fn tail_command<'a>(alloc: Global) -> Result<Command<'a>, AllocError>
     ensures { IfOk result (IsCommand tail_shape) }
 {
     log_command(alloc, "tail")?
+        .arg(choice(alloc, "rounds"))?
         .arg(option(alloc, "from"))?
-        .arg(option(alloc, "until"))?
+        .arg(choice(alloc, "until"))?
+        .arg(choice(alloc, "pause"))?
+        .arg(flag(alloc, "follow"))?
         .arg(flag(alloc, "one-copy"))?
-        .arg(flag(alloc, "messages"))
+        .arg(flag(alloc, "messages"))?
+        .arg(flag(alloc, "text"))?
+        .arg(flag(alloc, "json"))
 }
 
 /// The command that tells what the register says of a log.

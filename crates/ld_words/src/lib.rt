@@ -6,6 +6,7 @@ mod arguments;
 mod cause;
 mod command;
 mod file_name;
+mod following;
 mod grammar;
 mod host;
 mod law;
@@ -17,7 +18,7 @@ mod words;
 pub use address::{Address, Addresses, Listen, NodeAddress, Reach};
 pub use cause::config_cause;
 pub use command::{
-    AppendWords, Command, Company, CrowdWords, LogWords, NodeWords, Places, RegisterWords,
+    AppendWords, Command, Company, CrowdWords, LogWords, NodeWords, Places, RegisterWords, Shown,
     StatusWords, TailWords,
 };
 pub use file_name::FileName;

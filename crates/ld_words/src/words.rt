@@ -10,17 +10,18 @@ ghost use Rattle.ld_words.specs.declared.command.TailWords.{TailWords as Tail};
 ghost use Rattle.ld_words.specs.declared.command.RegisterWords.{RegisterWords as Looking};
 ghost use Rattle.ld_words.specs.declared.command.StatusWords.{StatusWords as Asking};
 ghost use Rattle.ld_words.specs.declared.command.Command.{Command as Choice};
-ghost use Rattle.ld_words.specs.Meaning.{IsExercise, AreFiles, IsTurns, IsNodeWords, IsLogWords, IsAppendWords, IsRange, IsTailWords, IsRegisterWords, IsStatusWords, is_true, style_of, IsNamed, IsFound, Asks, IsNoCommand, ArePlacesOf, ArePlacesOfNode, ArePlacesOfLog, HasNoPlaces, AskForPlaces, AskForNoPlaces};
+ghost use Rattle.ld_words.specs.Meaning.{IsExercise, AreFiles, IsTurns, IsNodeWords, IsLogWords, IsAppendWords, IsRange, IsTailWords, IsRegisterWords, IsStatusWords, is_true, style_of, shown_of, IsNamed, IsFound, Asks, IsNoCommand, ArePlacesOf, ArePlacesOfNode, ArePlacesOfLog, HasNoPlaces, AskForPlaces, AskForNoPlaces};
 ghost use Rattle.ld_words.specs.Refuses.{Refuses};
 ghost use Rattle.ld_words.specs.Bounds.{IsLogInBounds, IsTailInBounds, IsRegisterInBounds, IsStatusInBounds, HasBounds};
 
 use crate::arguments::{config, file_name, flag, log_of, lsn, member, number, number_or, text};
+use crate::following::{pause, rounds, until};
 use crate::grammar::matches;
 use crate::reach::{is_given, listen, reach};
 use crate::refusal::Refusal;
 use crate::{
     AppendWords, Command, Company, CrowdWords, FileName, Listen, LogWords, NodeWords, Places,
-    Reach, RegisterWords, StatusWords, TailWords,
+    Reach, RegisterWords, Shown, StatusWords, TailWords,
 };
 use clap::ArgMatches;
 use ld_ids::NoMemory;
@@ -122,14 +123,14 @@ fn log_words(alloc: Global, matches: &ArgMatches<'_>) -> Result<LogWords, Refusa
     let log = log_of(log, &config)?;
     let register = file_name(alloc, matches, "register")?;
     let reach = reach(alloc, matches, &config.nodes)?;
-    let rounds = number(matches, "rounds", 1, 1_000_000)?;
+    let rounds = rounds(matches)?;
     let limit = number_or(matches, "limit", 100, 60_000, 10_000)?;
     Ok(LogWords {
         config,
         log,
         register,
         reach,
-        rounds: rounds as u32,
+        rounds,
         limit: limit as u32,
     })
 }
@@ -142,8 +143,12 @@ fn append_words(alloc: Global, matches: &ArgMatches<'_>) -> Result<AppendWords, 
     ensures bounds { IfOk result (λ w. IsLogInBounds w.of) }
 {
     let of = log_words(alloc, matches)?;
-    let batches = flag(matches, "batches");
-    Ok(AppendWords { of, batches })
+    Ok(AppendWords {
+        of,
+        batches: flag(matches, "batches"),
+        moves: flag(matches, "move"),
+        text: flag(matches, "text"),
+    })
 }
 
 /// How payloads come, and are written.
@@ -160,6 +165,23 @@ fn style(matches: &ArgMatches<'_>) -> Result<Style, Refusal>
     }
 }
 
+/// How what a reader gets is written.
+fn form(matches: &ArgMatches<'_>) -> Result<Shown, Refusal>
+    ensures { MatchResult result
+        (λ shown. shown_of (is_true (first_of (codes "text") (rows_of (found_of matches.now)))) (is_true (first_of (codes "json") (rows_of (found_of matches.now)))) ≡ Some shown)
+        (Refuses (shown_of (is_true (first_of (codes "text") (rows_of (found_of matches.now)))) (is_true (first_of (codes "json") (rows_of (found_of matches.now)))) ≡ None)) }
+{
+    match (flag(matches, "text"), flag(matches, "json")) {
+        (false, false) => Ok(Shown::Lines),
+        (true, false) => Ok(Shown::Text),
+        (false, true) => Ok(Shown::Json),
+        (true, true) => Err(Refusal::Both {
+            one: "text",
+            other: "json",
+        }),
+    }
+}
+
 /// The first and the last number that the arguments say.
 #[tactic(auto, using(crate::proofs::OneCommand::first_of_range, crate::proofs::OneCommand::last_of_range))]
 fn range(matches: &ArgMatches<'_>) -> Result<(Lsn, Lsn), Refusal>
@@ -168,7 +190,7 @@ fn range(matches: &ArgMatches<'_>) -> Result<(Lsn, Lsn), Refusal>
         (Refuses ((first last : ℕ) → IsRange (rows_of (found_of matches.now)) first last → ⊥)) }
 {
     let from = lsn(matches, "from")?;
-    let until = lsn(matches, "until")?;
+    let until = until(matches)?;
     if from.value() == 0 || until.value() < from.value() {
         return Err(Refusal::Order);
     }
@@ -185,11 +207,15 @@ fn tail_words(alloc: Global, matches: &ArgMatches<'_>) -> Result<TailWords, Refu
     let of = log_words(alloc, matches)?;
     let (from, until) = range(matches)?;
     let style = style(matches)?;
+    let pause = pause(matches)?;
+    let shown = form(matches)?;
     Ok(TailWords {
         of,
         from,
         until,
         style,
+        pause,
+        shown,
     })
 }
 

@@ -1,4 +1,4 @@
-use Rattle.std.proofs.Common.{◌≡◌, ◌⊎◌, rules, subst, true, Some}
+use Rattle.std.proofs.Common.{◌≡◌, ◌⊎◌, rules, refl, subst, true, Some}
 use Rattle.std.specs.Io.KnownBytes.{prepend_known}
 use Rattle.ld_io.specs.Input.{left_of}
 use Rattle.ld_append.specs.Acting.{MayCrowd, HoldsSome, LacksRoom}
@@ -6,7 +6,7 @@ use Rattle.ld_append.specs.Appends.{IsAppended, IsEndOfAppend, IsRefused}
 use Rattle.ld_cli.specs.Clients.{EndsDrive}
 use Rattle.ld_cli.specs.Payloads.{input_after}
 use Rattle.ld_rounds.specs.Drives.{IsBroken}
-use Rattle.ld_rounds.specs.Endings.{IsOffAs}
+use Rattle.ld_rounds.specs.Endings.{IsOffAs, IsEndedOff}
 use Rattle.ld_cli.proofs.Drives.{ends_so, driven_so}
 use Rattle.ld_cli.proofs.clients.append_lines.Goals as goal
 
@@ -28,7 +28,7 @@ returns-clause-appended g c = λ s far bounds spec unset told begins.
     (λ rounds.
     IsAppended c.args.name c.args.spec.now.log (IsBroken (g.N.Nodes.faults c.args.nodes.now) (g.N.Nodes.faults c.append-ended.new.nodes) (g.N.Nodes.endings c.args.nodes.now) (g.N.Nodes.endings c.append-ended.new.nodes)) (input_after c.args.lines.now.held.now.batches c.args.lines.now.held.now.number (prepend_known c.args.lines.now.held.now.buffer (left_of (g.I.Source.known c.args.lines.now.input.now) (g.I.Source.gave c.args.lines.now.input.now)))) rounds
     (g.N.Nodes.tells c.append-ended.new.nodes) (g.G.Register.tells c.append-ended.result.1.now) c.args.words.now.config s (Some (g.O.Sink.written c.args.out.now)) (Some (g.O.Sink.written c.append-ended.new.out)))
-    c.from.result c.args.words.now.rounds c.from.ensures
+    c.args.words.now.rounds c.args.words.now.rounds refl
     (g.N.Nodes.faults c.args.nodes.now) (g.N.Nodes.faults c.append-ended.new.nodes) c.failures-before.result c.failures-now.result c.append-ended.result.0 c.status_of.result c.failures-before.ensures c.failures-now.ensures c.status_of.ensures
     (c.append-ended.ensures.appended s far bounds spec unset told begins))
 
@@ -42,3 +42,7 @@ returns-clause-refused g c =
 pub returns-clause-off : goal.returns-clause-off
 returns-clause-off g c = ends_so (g.N.Nodes.faults c.args.nodes.now) (g.N.Nodes.faults c.append-ended.new.nodes) c.failures-before.result c.failures-now.result (IsOffAs (g.N.Nodes.off c.append-ended.new.nodes))
     c.append-ended.result.0 c.status_of.result c.failures-before.ensures c.failures-now.ensures c.status_of.ensures c.append-ended.ensures.off
+
+pub returns-clause-ended : goal.returns-clause-ended
+returns-clause-ended g c = ends_so (g.N.Nodes.faults c.args.nodes.now) (g.N.Nodes.faults c.append-ended.new.nodes) c.failures-before.result c.failures-now.result (IsEndedOff (g.N.Nodes.off c.args.nodes.now) (g.N.Nodes.off c.append-ended.new.nodes))
+    c.append-ended.result.0 c.status_of.result c.failures-before.ensures c.failures-now.ensures c.status_of.ensures c.append-ended.ensures.ended

@@ -1,6 +1,7 @@
 use Rattle.std.proofs.Common.{◌≡◌, ◌∙◌, ◌⊎◌, rules, inl, inr, refl, ap, subst, ℕ, List, Option, true, codes, Some}
 use Rattle.ld_io.specs.Input.{left_of}
 use Rattle.ld_rounds.specs.Drives.{IsBroken}
+use Rattle.ld_rounds.proofs.Endings.{none_ended}
 use Rattle.ld_append.specs.Acting.{MayCrowd}
 use Rattle.ld_append.specs.Appends.{IsAppended, IsEndOfAppend}
 use Rattle.ld_cli.specs.Clients.{EndsDrive}
@@ -21,6 +22,7 @@ returns-in_default g c = record {
   ends = inl tt;
   refused = tt;
   off = tt;
+  ended = λ none. none_ended _ _ none;
 }
 
 pub returns-in_default-new : goal.returns-in_default-new
@@ -29,6 +31,7 @@ returns-in_default-new g c = record {
   ends = inl tt;
   refused = tt;
   off = tt;
+  ended = λ none. none_ended _ _ none;
 }
 
 pub append_lines-requires : goal.append_lines-requires
@@ -58,4 +61,5 @@ returns g c =
           (subst (λ (l : ℕ). EndsDrive before now (end l coming reads) c.append_lines.result) log (subst (λ (i : Option Input). EndsDrive before now (end c.in-Some.spec.log i reads) c.append_lines.result) fresh c.append_lines.ensures.ends)) (search rules);
       refused = c.append_lines.ensures.refused;
       off = c.append_lines.ensures.off;
+      ended = c.append_lines.ensures.ended;
     }

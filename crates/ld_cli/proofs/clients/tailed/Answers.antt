@@ -1,6 +1,7 @@
-use Rattle.std.proofs.Common.{◌≡◌, ◌⊎◌, rules, List, ℕ, inr, subst, true, codes, Some}
+use Rattle.std.proofs.Common.{◌≡◌, ◌⊎◌, rules, List, ℕ, inr, refl, subst, true, codes, Some}
 use Rattle.ld_rounds.specs.Drives.{IsBroken}
-use Rattle.ld_rounds.specs.Endings.{IsOffAs}
+use Rattle.ld_rounds.specs.Endings.{IsOffAs, IsEndedOff}
+use Rattle.ld_rounds.proofs.Endings.{none_ended}
 use Rattle.ld_tail.specs.Tails.{IsTailed, IsTailEnd}
 use Rattle.ld_cli.specs.Clients.{EndsDrive}
 use Rattle.ld_cli.proofs.Drives.{ends_so, driven_so, nothing_read}
@@ -22,11 +23,11 @@ returns-clause-tailed g c = λ s far told begins.
     (λ rounds.
     IsTailed (record { name = codes "r"; log = c.args.words.now.of.log; from = c.args.words.now.from; until = c.args.words.now.until; style = c.args.words.now.style }) (IsBroken (g.N.Nodes.faults c.args.nodes.now) (g.N.Nodes.faults c.tail-ended.new.nodes) (g.N.Nodes.endings c.args.nodes.now) (g.N.Nodes.endings c.tail-ended.new.nodes)) rounds
     (g.N.Nodes.tells c.tail-ended.new.nodes) (g.G.Register.tells c.tail-ended.result.1.now) c.args.words.now.of.config s (Some (g.O.Sink.written c.args.out.now)) (Some (g.O.Sink.written c.tail-ended.new.out)))
-    c.from.result c.args.words.now.of.rounds c.from.ensures
+    c.args.words.now.of.rounds c.args.words.now.of.rounds refl
     (g.N.Nodes.faults c.args.nodes.now) (g.N.Nodes.faults c.tail-ended.new.nodes) c.failures-before.result c.failures-now.result c.tail-ended.result.0 c.status_of.result c.failures-before.ensures c.failures-now.ensures c.status_of.ensures
     (subst
     (λ (name : List ℕ).
-    (g.N.Nodes.silent c.tail-ended.new.nodes ≡ true) ⊎ IsTailed (record { name = name; log = c.args.words.now.of.log; from = c.args.words.now.from; until = c.args.words.now.until; style = c.args.words.now.style }) (IsBroken (g.N.Nodes.faults c.args.nodes.now) (g.N.Nodes.faults c.tail-ended.new.nodes) (g.N.Nodes.endings c.args.nodes.now) (g.N.Nodes.endings c.tail-ended.new.nodes)) c.from.result
+    (g.N.Nodes.silent c.tail-ended.new.nodes ≡ true) ⊎ IsTailed (record { name = name; log = c.args.words.now.of.log; from = c.args.words.now.from; until = c.args.words.now.until; style = c.args.words.now.style }) (IsBroken (g.N.Nodes.faults c.args.nodes.now) (g.N.Nodes.faults c.tail-ended.new.nodes) (g.N.Nodes.endings c.args.nodes.now) (g.N.Nodes.endings c.tail-ended.new.nodes)) c.args.words.now.of.rounds
     (g.N.Nodes.tells c.tail-ended.new.nodes) (g.G.Register.tells c.tail-ended.result.1.now) c.args.words.now.of.config s (Some (g.O.Sink.written c.args.out.now)) (Some (g.O.Sink.written c.tail-ended.new.out)) c.tail-ended.result.0)
     c.in-Ok.ensures (c.tail-ended.ensures.tailed s far told begins)))
 
@@ -44,3 +45,10 @@ returns-clause-ends g c =
 pub returns-clause-off : goal.returns-clause-off
 returns-clause-off g c = ends_so (g.N.Nodes.faults c.args.nodes.now) (g.N.Nodes.faults c.tail-ended.new.nodes) c.failures-before.result c.failures-now.result (IsOffAs (g.N.Nodes.off c.tail-ended.new.nodes))
     c.tail-ended.result.0 c.status_of.result c.failures-before.ensures c.failures-now.ensures c.status_of.ensures c.tail-ended.ensures.off
+
+pub returns-clause-ended : goal.returns-clause-ended
+returns-clause-ended g c = ends_so (g.N.Nodes.faults c.args.nodes.now) (g.N.Nodes.faults c.tail-ended.new.nodes) c.failures-before.result c.failures-now.result (IsEndedOff (g.N.Nodes.off c.args.nodes.now) (g.N.Nodes.off c.tail-ended.new.nodes))
+    c.tail-ended.result.0 c.status_of.result c.failures-before.ensures c.failures-now.ensures c.status_of.ensures c.tail-ended.ensures.ended
+
+pub returns-in_default-clause-ended : goal.returns-in_default-clause-ended
+returns-in_default-clause-ended g c = λ none. none_ended _ _ none

@@ -127,3 +127,18 @@ returns-in-Exercise-clause-off g c = λ drives. absurd (subst Drives c.in-Exerci
 
 pub returns-in-Node-clause-off : goal.returns-in-Node-clause-off
 returns-in-Node-clause-off g c = λ drives. absurd (subst Drives c.in-Node.is drives)
+
+pub returns-in-Replay-clause-ended : goal.returns-in-Replay-clause-ended
+returns-in-Replay-clause-ended g c = λ drives. absurd (subst Drives c.in-Replay.is drives)
+
+pub returns-in-Exercise-clause-ended : goal.returns-in-Exercise-clause-ended
+returns-in-Exercise-clause-ended g c = λ drives. absurd (subst Drives c.in-Exercise.is drives)
+
+pub returns-in-Node-clause-ended : goal.returns-in-Node-clause-ended
+returns-in-Node-clause-ended g c = λ drives. absurd (subst Drives c.in-Node.is drives)
+
+pub returns-in-Append-clause-ended : goal.returns-in-Append-clause-ended
+returns-in-Append-clause-ended g c = λ is. c.appended.ensures.ended
+
+pub returns-in-Tail-clause-ended : goal.returns-in-Tail-clause-ended
+returns-in-Tail-clause-ended g c = λ is. c.tailed.ensures.ended

@@ -171,3 +171,14 @@ returns-in-Ok-Some-clause-asked g c = λ s asks.
 pub returns-in-Ok-None-clause-asked : goal.returns-in-Ok-None-clause-asked
 returns-in-Ok-None-clause-asked g c = λ s asks.
     absurd (asked_none (map string_bytes c.args.words.now) c.in-Ok-None.field-0 (Status s) c.in-Ok-None.field-0-is c.in-Ok-None.ensures.asks asks)
+
+pub returns-in-Ok-Some-clause-ended : goal.returns-in-Ok-Some-clause-ended
+returns-in-Ok-Some-clause-ended g c = λ asked asks drives.
+    c.carry_out.ensures.ended (subst Drives (sym (asked_one (map string_bytes c.args.words.now) c.in-Ok-Some.field-0 c.in-Ok-Some.command asked c.in-Ok-Some.field-0-is c.in-Ok-Some.ensures.asks asks)) drives)
+
+pub returns-in-Ok-None-clause-ended : goal.returns-in-Ok-None-clause-ended
+returns-in-Ok-None-clause-ended g c = λ asked asks drives. absurd (asked_none (map string_bytes c.args.words.now) c.in-Ok-None.field-0 asked c.in-Ok-None.field-0-is c.in-Ok-None.ensures.asks asks)
+
+pub returns-in-Ok-Some-clause-formatted : goal.returns-in-Ok-Some-clause-formatted
+returns-in-Ok-Some-clause-formatted g c = λ n bytes asks seen some.
+    c.carry_out.ensures.formatted n bytes (asked_one (map string_bytes c.args.words.now) c.in-Ok-Some.field-0 c.in-Ok-Some.command (Node n) c.in-Ok-Some.field-0-is c.in-Ok-Some.ensures.asks asks) seen some
