@@ -92,7 +92,9 @@ struct Failures {
 
 /// Carries out what the arguments name, and tells the status where it isn't Ok.
 fn carry_out(rt: &HostRuntime, words: &[String], places: &Places) -> Status {
-    let forms = forms_of(rt.alloc(), words);
+    let Some(forms) = forms_of(rt.alloc(), words) else {
+        return ends_early(rt, words, Status::NoMemory);
+    };
     let lines = Recent::new(rt.alloc(), StdSource::standard(rt.stdin()));
     let Ok(mut input) = TextSource::new(rt.alloc(), lines, forms.is_text) else {
         return ends_early(rt, words, Status::NoMemory);

@@ -21,20 +21,22 @@ fn form_of(shown: Shown) -> Form {
     }
 }
 
-/// What the arguments say of the input and the output. Where they ask for no such command, or out of memory, nothing is text.
-pub fn forms_of(alloc: Global, words: &[String]) -> Forms {
+/// What the arguments say of the input and the output. Where they ask for no such command nothing is text; none when out of
+/// memory.
+pub fn forms_of(alloc: Global, words: &[String]) -> Option<Forms> {
     match read(alloc, words) {
-        Ok(Some(Command::Append(append))) => Forms {
+        Ok(Some(Command::Append(append))) => Some(Forms {
             is_text: append.text,
             shown: Form::Line,
-        },
-        Ok(Some(Command::Tail(tail))) => Forms {
+        }),
+        Ok(Some(Command::Tail(tail))) => Some(Forms {
             is_text: false,
             shown: form_of(tail.shown),
-        },
-        _ => Forms {
+        }),
+        Ok(_) => Some(Forms {
             is_text: false,
             shown: Form::Line,
-        },
+        }),
+        Err(_) => None,
     }
 }
