@@ -21,23 +21,30 @@ print_version() {
   printf 'ld %s\n' "$(git --git-dir="$top/.git" describe --tags --always 2> /dev/null || echo unreleased)"
 }
 
-# how many crates of how many are proved, the crate that is proved now, and the time so far
+# how many crates of how many are proved, and the time so far
 say_progress() {
-  local proved now seconds=$((SECONDS - began))
-  proved=$(grep -c '^\(crate\|library\) ld' "$built")
-  now=$(sed -n 's/^rt: chose .* for \(ld[a-z_]*\)$/\1/p' "$built" | tail -n 1)
-  [ "$proved $now" = "$said" ] && [ ! -t 2 ] && return
-  said="$proved $now"
-  printf '%sld: %d of %d crates, %d:%02d so far; now %s%s' "$begin" "$proved" "$crates" $((seconds / 60)) $((seconds % 60)) "${now:-the first one}" "$end" >&2
+  local proved seconds=$((SECONDS - began))
+  proved=$(grep -c '^[0-9:]* ld[a-z_]*: proved\|^\(crate\|library\) ld' "$built")
+  [ "$proved" = "$said" ] && [ ! -t 2 ] && return
+  said=$proved
+  printf '%sld: %d of %d crates, %d:%02d so far%s' "$begin" "$proved" "$crates" $((seconds / 60)) $((seconds % 60)) "$end" >&2
+}
+
+# several crates side by side; with a kit that doesn't let them, one after the other: `rt run` also runs what it built, on
+# the stored run, whose output is of no use here
+prove_all() {
+  "$top/tools/prove" ld
+  local status=$?
+  [ "$status" -ne 3 ] && return "$status"
+  (cd "$top/crates/ld" && rt run -- replay < stdin)
 }
 
 prove_and_build() {
   local made=0
-  crates=$(grep '^ld' "$top/crates.txt" | grep -vc '^ld_tests_') said= began=$SECONDS begin= end=$'\n'
+  crates=$(grep '^ld' "$top/crates.txt" | grep -vc '^ld_\(tests_\|rows\|served\)') said= began=$SECONDS begin= end=$'\n'
   if [ -t 2 ]; then begin=$'\r\e[K' end=; fi
-  echo "ld: proving and building the program: some minutes, or an hour where nothing is proved on this machine yet" >&2
-  # `rt run` also runs what it built: on the stored run, whose output is of no use here
-  (cd "$top/crates/ld" && exec rt run -- replay < stdin) > "$built" 2>&1 {lock}<&- &
+  echo "ld: proving and building the program: some minutes, or most of an hour where nothing is proved here yet" >&2
+  prove_all > "$built" 2>&1 {lock}<&- &
   while kill -0 $! 2> /dev/null; do
     say_progress
     sleep 2
