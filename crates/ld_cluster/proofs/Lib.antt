@@ -13,3 +13,4 @@ pub mod Setting
 pub mod Logs
 pub mod Bytes
 pub mod Listing
+pub mod Serving

@@ -6,3 +6,4 @@ pub mod Ticking
 pub mod Bytes
 pub mod Swaps
 pub mod Calming
+pub mod Served

@@ -5,6 +5,7 @@ ghost use Rattle.ld_machine.specs.Calm.{Announces as TheAnnounces, Reads as TheR
 ghost use Rattle.ld_machine.specs.Run.{step};
 ghost use Rattle.ld_cluster.specs.Calming.{AreOf, Begins, HasCalmed, IsCut, IsDelivering, IsOf, MayTake, as_left, left_in};
 ghost use Rattle.ld_cluster.specs.Outcomes.{IsSame};
+ghost use Rattle.ld_cluster.specs.Served.{HasServed};
 ghost use Rattle.ld_cluster.specs.Standing.{config_of, state_of, IsReached};
 ghost use Rattle.ld_cluster.specs.Steps.{IsStep, IsStepInPart, steps_of};
 
@@ -22,6 +23,7 @@ impl Cluster {
     pub(crate) fn calm(&mut self, alloc: Global, lines: &mut Lines) -> Result<(), NoMemory>
         requires reached { IsReached self.old }
         ensures whole { OnOk result (IsStep self.old self.new lines.old lines.new (step (config_of self.old) (state_of self.old) Calm) (steps_of (config_of self.old) (state_of self.old) Calm)) }
+        ensures served { OnOk result (HasServed self.old self.new) }
         ensures part { OnErr result (IsStepInPart self.old self.new lines.old lines.new (step (config_of self.old) (state_of self.old) Calm) (steps_of (config_of self.old) (state_of self.old) Calm)) }
     {
         let before = lines.len();

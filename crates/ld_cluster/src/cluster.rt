@@ -3,8 +3,10 @@ ghost use Rattle.std.specs.Prelude.{◌≡◌, [], is_some, IfOk, OnOk, OnErr};
 ghost use Rattle.ld_config.specs.Bounds.{IsInBounds};
 ghost use Rattle.ld_disk.specs.Memory.{disk_plain};
 ghost use Rattle.ld_disk.specs.Plain.{new_disk};
+ghost use Rattle.ld_schedule.specs.declared.event.Event.TheVariants.{Calm};
 ghost use Rattle.ld_msg.specs.Network.{oldest_new};
 ghost use Rattle.ld_machine.specs.Run.{step};
+ghost use Rattle.ld_cluster.specs.Served.{HasServed};
 ghost use Rattle.ld_cluster.specs.Standing.{config_of, past_of, state_of, IsReached};
 ghost use Rattle.ld_cluster.specs.Steps.{IsStep, IsStepInPart, Counts, delivers_oldest, delivery, steps_of};
 
@@ -60,12 +62,14 @@ impl Cluster {
     }
 
     /// Takes the event as one step of the machine, or, for a `flow` or a `calm`, as one step for each delivery or for each
-    /// step of the calm, and adds the lines. After an `Err` the cluster may have done a part, of which it has added the
-    /// first lines, and is of no use.
+    /// step of the calm, and adds the lines. A calm ends, within its bound; and where all is well before it and it meets no
+    /// limit, each log is served after it. After an `Err` the cluster may have done a part, of which it has added the first
+    /// lines, and is of no use.
     pub fn step(&mut self, alloc: Global, event: &Event, lines: &mut Lines) -> Result<(), NoMemory>
         requires reached { IsReached self.old }
         requires counts { Counts event.now }
         ensures whole { OnOk result (IsStep self.old self.new lines.old lines.new (step (config_of self.old) (state_of self.old) event.now) (steps_of (config_of self.old) (state_of self.old) event.now)) }
+        ensures calms { OnOk result (event.now ≡ Calm → HasServed self.old self.new) }
         ensures part { OnErr result (IsStepInPart self.old self.new lines.old lines.new (step (config_of self.old) (state_of self.old) event.now) (steps_of (config_of self.old) (state_of self.old) event.now)) }
     {
         if let Event::Flow { most } = event {

@@ -25,13 +25,13 @@ use Rattle.ld_served.proofs.Replying.{names}
 use Rattle.ld_served.proofs.Going.{Goes}
 use Rattle.ld_served.proofs.Retrying.{retry_out}
 
-in_posted : (l b : ℕ) (x : ℕ × Body) (bs : List (ℕ × Body)) → In x bs → In (to_node_of l b x.0 x.1) (posted (whos.Sequencer b) l bs)
+pub in_posted : (l b : ℕ) (x : ℕ × Body) (bs : List (ℕ × Body)) → In x bs → In (to_node_of l b x.0 x.1) (posted (whos.Sequencer b) l bs)
 in_posted l b x [] i = absurd i
 in_posted l b x (y ∷ bs) (inl e) = inl (λ j. to_node_of l b (e j).0 (e j).1)
 in_posted l b x (y ∷ bs) (inr i) = inr (in_posted l b x bs i)
 
 -- a close that failed is told
-failed_told : (name : List ℕ) (old : Sequencer) (a : Acts) → (In (lines.RefusedRegister name) (Step.acted_lines name old a) → ⊥) → a.failed ≡ false
+pub failed_told : (name : List ℕ) (old : Sequencer) (a : Acts) → (In (lines.RefusedRegister name) (Step.acted_lines name old a) → ⊥) → a.failed ≡ false
 failed_told name old a h = by_failed a.failed refl where
   by_failed : (b : Bool) → a.failed ≡ b → b ≡ false
   by_failed false e = refl

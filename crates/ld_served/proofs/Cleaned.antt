@@ -18,9 +18,9 @@ use Rattle.ld_op.specs.Plain.{Plain, Log, log_of, empty_log, apply, with_log, su
 use Rattle.ld_op.specs.Ticks.{Ticked, Cleans, Rebuilt, Asks, Nothing, on_tick, tick_with, lowest_unclean}
 use Rattle.ld_machine.specs.Config.{all_nodes, has_log}
 use Rattle.ld_machine.specs.Disk.{keep_end, Written, is_up}
-use Rattle.ld_machine.specs.State.{State, Done, start, finish, node_at}
-use Rattle.ld_machine.specs.World.{In}
-use Rattle.ld_machine.specs.Run.{state_after}
+use Rattle.ld_machine.specs.State.{State, Done, finish, node_at}
+use Rattle.ld_machine.specs.World.{In, begin}
+use Rattle.ld_machine.specs.Run.{world_after}
 use Rattle.ld_machine.specs.Step as Step
 use Rattle.ld_machine.specs.Calm.{Move, Takes, Calms, Left, Announces, Settles, Ticks, Reads, Drains, Again, moves, moved, cleans, cleans_by, last_of, calms, calm_fuel, all_left, left_for}
 use Rattle.ld_safety.proofs.Lists.{cond_both, In_left, In_right}
@@ -31,13 +31,13 @@ use Rattle.ld_calm.proofs.Alike.{AllBy, delivers_by, polls_by, ticks_by, heals}
 use Rattle.ld_op.proofs.Gaps.{gap_clean}
 use Rattle.ld_calm.proofs.Noded.{gap_low}
 use Rattle.ld_calm.proofs.Logs.{log_there}
-use Rattle.ld_calm.proofs.InRun.{calm_ends}
-use Rattle.ld_served.specs.Served.{ClosedIsClean}
+use Rattle.ld_calm.proofs.InRun.{calm_ends_after}
+use Rattle.ld_served.specs.Served.{AllWell, ClosedIsClean, NoLimit}
 use Rattle.ld_served.proofs.Phases.{Parts, Unlimited, at_last}
 use Rattle.ld_served.proofs.Stepping.{ticking, announcing}
 use Rattle.ld_served.proofs.Well.{sound_written}
 use Rattle.ld_served.proofs.Last.{last_is}
-use Rattle.ld_served.proofs.Kept.{Good, good_delivers, good_ticks, good_polls, good_announces, good_first, after_run, unlimited}
+use Rattle.ld_served.proofs.Kept.{Good, good_delivers, good_ticks, good_polls, good_announces, good_first, after_steps, after_events, unlimited}
 
 -- ---- epochs stay clean ----
 
@@ -125,6 +125,23 @@ module _ (c : Config) (s : State) (G : Good c s) (l n : ℕ) (log : has_log c l 
     ticks = λ t a v e. by_tick t e;
   }) (λ m i. u.journals m (finish_In (moves c s (Takes (events.Tick n l))) _ i))
 
+-- ---- a step ----
+
+-- each step of a calm leaves all epochs clean that are
+module _ (c : Config) (s : State) where
+  pub by_delivery : (i : ℕ) → AllBy Grows s (moved c s (Takes (events.Deliver i))).state
+  by_delivery i = delivers_by Grows grows_here apply_grows c s i
+
+  pub by_poll : (name : List ℕ) → AllBy Grows s (moved c s (Takes (events.Poll name))).state
+  by_poll name = polls_by Grows grows_here apply_grows c s name
+
+  pub by_ticking : (n l : ℕ) → AllBy Grows s (moved c s (Takes (events.Tick n l))).state
+  by_ticking n l = ticks_by Grows grows_here apply_grows c s n l (refilled_grows l)
+
+  pub by_retry : (l : ℕ) (q : List ℕ × Sequencer) → Good c s → last_of s l ≡ Some q → q.1.gone ≡ false → AllBy Grows s (moved c s (Calms q.0)).state
+  unfolding finish
+  by_retry l q G e g = announcing c s q.0 q.1 (λ d. AllBy Grows s d.state) (last_is s l q G.of_run.known.lined.0.0.0.0.0.0 e).named g (λ y. grows_here (node_at s y).plain)
+
 -- ---- a whole calm ----
 
 -- what is left to do has the node's ticks still, or it is clean
@@ -149,19 +166,6 @@ module _ (c : Config) (b : IsInBounds c) (k : ℕ → ℕ) where
     nodes = λ l n h i. elim (K.nodes l n h i) [ inl a ↦ inl a | inr a ↦ inr (λ e p u. (A n).clean l e (a e p u)) ];
   }
 
-  by_delivery : (s : State) (i : ℕ) → AllBy Grows s (moved c s (Takes (events.Deliver i))).state
-  by_delivery s i = delivers_by Grows grows_here apply_grows c s i
-
-  by_poll : (s : State) (name : List ℕ) → AllBy Grows s (moved c s (Takes (events.Poll name))).state
-  by_poll s name = polls_by Grows grows_here apply_grows c s name
-
-  by_ticking : (s : State) (n l : ℕ) → AllBy Grows s (moved c s (Takes (events.Tick n l))).state
-  by_ticking s n l = ticks_by Grows grows_here apply_grows c s n l (refilled_grows l)
-
-  by_retry : (s : State) (l : ℕ) (q : List ℕ × Sequencer) → Good c s → last_of s l ≡ Some q → q.1.gone ≡ false → AllBy Grows s (moved c s (Calms q.0)).state
-  unfolding finish
-  by_retry s l q G e g = announcing c s q.0 q.1 (λ d. AllBy Grows s d.state) (last_is s l q G.of_run.known.lined.0.0.0.0.0.0 e).named g (λ y. grows_here (node_at s y).plain)
-
   behind : (p : Left) (ps : List Left) → ((l n : ℕ) → Ticks l n ≡ p → ⊥) → (l n : ℕ) → In (Ticks l n) (p ∷ ps) → In (Ticks l n) ps
   behind p ps f l n (inl e) = absurd (f l n e)
   behind p ps f l n (inr i) = i
@@ -175,12 +179,12 @@ module _ (c : Config) (b : IsInBounds c) (k : ℕ → ℕ) where
 
   cleaned_parts : Parts c (λ s ps. Cleaned c k s ps)
   cleaned_parts = record {
-    announced = λ s l ps q K e g u. step_on s (Calms q.0) ps (good_announces c b s K.good l q e g) (by_retry s l q K.good e g) (same_parts s (Announces l ∷ ps) ps (behind (Announces l) ps (λ x y h. cc)) K);
+    announced = λ s l ps q K e g u. step_on s (Calms q.0) ps (good_announces c b s K.good l q e g) (by_retry c s l q K.good e g) (same_parts s (Announces l ∷ ps) ps (behind (Announces l) ps (λ x y h. cc)) K);
     silent = λ s l ps K h. same_parts s (Announces l ∷ ps) ps (behind (Announces l) ps (λ x y h. cc)) K;
-    settles = λ s l ps i K e u. step_on s (Takes (events.Deliver i)) (Settles l ∷ ps) (good_delivers c b s K.good i u) (by_delivery s i) K;
+    settles = λ s l ps i K e u. step_on s (Takes (events.Deliver i)) (Settles l ∷ ps) (good_delivers c b s K.good i u) (by_delivery c s i) K;
     settled = λ s l ps K e. same_parts s (Settles l ∷ ps) ps (behind (Settles l) ps (λ x y h. cc)) K;
-    cleaned = λ s l n ps K t u. step_on s (Takes (events.Tick n l)) (Ticks l n ∷ ps) (good_ticks c b s K.good n l u) (by_ticking s n l) K;
-    ticked = λ s l n ps K t u. step_on s (Takes (events.Tick n l)) ps (good_ticks c b s K.good n l u) (by_ticking s n l) (record {
+    cleaned = λ s l n ps K t u. step_on s (Takes (events.Tick n l)) (Ticks l n ∷ ps) (good_ticks c b s K.good n l u) (by_ticking c s n l) K;
+    ticked = λ s l n ps K t u. step_on s (Takes (events.Tick n l)) ps (good_ticks c b s K.good n l u) (by_ticking c s n l) (record {
       good = K.good;
       closed = K.closed;
       nodes = λ j m h i. elim (K.nodes j m h i) [
@@ -189,11 +193,11 @@ module _ (c : Config) (b : IsInBounds c) (k : ℕ → ℕ) where
         | inr a ↦ inr a
       ];
     });
-    polled = λ s name d ps K e t u. step_on s (Takes (events.Poll name)) (Drains ∷ Again name d.next ∷ ps) (good_polls c b s K.good name) (by_poll s name) (same_parts s (Reads name ∷ ps) (Drains ∷ Again name d.next ∷ ps) (λ x y i. inr (inr (behind (Reads name) ps (λ x y h. cc) x y i))) K);
+    polled = λ s name d ps K e t u. step_on s (Takes (events.Poll name)) (Drains ∷ Again name d.next ∷ ps) (good_polls c b s K.good name) (by_poll c s name) (same_parts s (Reads name ∷ ps) (Drains ∷ Again name d.next ∷ ps) (λ x y i. inr (inr (behind (Reads name) ps (λ x y h. cc) x y i))) K);
     finished = λ s name ps K h. same_parts s (Reads name ∷ ps) ps (behind (Reads name) ps (λ x y h. cc)) K;
-    drains = λ s ps i K e u. step_on s (Takes (events.Deliver i)) (Drains ∷ ps) (good_delivers c b s K.good i u) (by_delivery s i) K;
+    drains = λ s ps i K e u. step_on s (Takes (events.Deliver i)) (Drains ∷ ps) (good_delivers c b s K.good i u) (by_delivery c s i) K;
     drained = λ s ps K e. same_parts s (Drains ∷ ps) ps (behind Drains ps (λ x y h. cc)) K;
-    asked = λ s name next d ps K e n u. step_on s (Takes (events.Poll name)) (Drains ∷ Again name d.next ∷ ps) (good_polls c b s K.good name) (by_poll s name)
+    asked = λ s name next d ps K e n u. step_on s (Takes (events.Poll name)) (Drains ∷ Again name d.next ∷ ps) (good_polls c b s K.good name) (by_poll c s name)
         (same_parts s (Again name next ∷ ps) (Drains ∷ Again name d.next ∷ ps) (λ x y i. inr (inr (behind (Again name next) ps (λ x y h. cc) x y i))) K);
     rested = λ s name next ps K h. same_parts s (Again name next ∷ ps) ps (behind (Again name next) ps (λ x y h. cc)) K;
   }
@@ -213,14 +217,21 @@ module _ (c : Config) (b : IsInBounds c) (k : ℕ → ℕ) where
   ticks_there s l n h i = let z = log_there l c.logs h in
       in_each (λ (p : Spec). left_for c s p.log) z.0 (Ticks l n) c.logs z.1 (subst (λ x. In (Ticks l n) (left_for c s x)) (sym z.2) (inr (inr (In_left (Ticks l n) (map (λ y. Ticks l y) (all_nodes c)) _ (in_map (λ y. Ticks l y) n (all_nodes c) i)))))
 
-positive_at : (g : Log) (e : ℕ) → 0 < e → is_some (find e g.summaries) ≡ true → is_some (summary_at g e) ≡ true
+pub positive_at : (g : Log) (e : ℕ) → 0 < e → is_some (find e g.summaries) ≡ true → is_some (summary_at g e) ≡ true
 unfolding summary_at
 positive_at g e p h = cond_both (e == 0) (Some epoch_zero) (find e g.summaries) (λ o. is_some o ≡ true) (λ t. refl) (λ t. h)
 
-pub closed_is_clean : ClosedIsClean
-closed_is_clean c es b A U l n e log node p low =
-    let s : State = state_after c (start c) es in
-    let G = good_first c s (after_run c b es) A in
+-- what a calm that begins in this state does
+abbrev CleansAll : Config → State → Type 0
+CleansAll c s = AllWell c s → NoLimit (calms c s) → (l n e : ℕ) → has_log c l ≡ true → In n (all_nodes c) → 1 ≤ e → e ≤ lce_of s.register l → is_some (summary_at (log_of (node_at (calms c s).state n).plain l) e) ≡ true
+
+clean_after : (c : Config) → IsInBounds c → (ms : List Move) → CleansAll c (world_after c (begin c) ms).state
+clean_after c b ms A U l n e log node p low =
+    let s : State = (world_after c (begin c) ms).state in
+    let G = good_first c s (after_steps c b ms) A in
     let K = at_last c (λ t ps. Cleaned c (λ j. lce_of s.register j) t ps) (cleaned_parts c b (λ j. lce_of s.register j)) (calm_fuel c s) s (all_left c s)
-    (record { good = G; closed = λ j. omega arith; nodes = λ j m h i. inl (ticks_there c b (λ x. lce_of s.register x) s j m h i) }) (calm_ends c es b).0 (unlimited (calms c s) U) in
+    (record { good = G; closed = λ j. omega arith; nodes = λ j m h i. inl (ticks_there c b (λ x. lce_of s.register x) s j m h i) }) (calm_ends_after c ms b).0 (unlimited (calms c s) U) in
     elim (K.nodes l n log node) [ inl i ↦ absurd i | inr a ↦ positive_at (log_of (node_at (calms c s).state n).plain l) e p (a e p low) ]
+
+pub closed_is_clean : ClosedIsClean
+closed_is_clean c es b = after_events c (CleansAll c) (clean_after c b) es

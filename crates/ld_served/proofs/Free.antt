@@ -28,6 +28,7 @@ use Rattle.ld_safety.proofs.Along.{Along, BodySaidIn}
 use Rattle.ld_safety.proofs.Protocol.{same_message}
 use Rattle.ld_safety.proofs.Settled.{LostTold, ClosedBy, CloseFine}
 use Rattle.ld_safety.proofs.LostJoined.{summaries_here}
+use Rattle.ld_safety.proofs.LostTrims.{TrimsTold, trims_kept}
 use Rattle.ld_safety.proofs.Registers.{look_open}
 use Rattle.ld_safety.proofs.Losses.{with_one_in}
 use Rattle.ld_safety.proofs.Specs.{SpecFine}
@@ -45,6 +46,8 @@ use Rattle.ld_served.proofs.Sealed.{Sealing, sealed_kept}
 use Rattle.ld_served.proofs.Booked.{AllBooked, booked_kept, summary_here}
 use Rattle.ld_served.proofs.Waits.{Lined, AllWaiting, waiting_kept}
 use Rattle.ld_served.proofs.Losing.{SomeLost, AllKnow, knows_kept, recovery_fine, digest_nodes, spent_lost, heard, stores_of, short_some, StageLost}
+use Rattle.ld_served.proofs.Showing.{AllShow, shows_kept}
+use Rattle.ld_served.proofs.Relost.{Relosing, relost_kept}
 use Rattle.ld_served.proofs.Last.{LastOf, here_most}
 
 -- ---- one call ----
@@ -118,24 +121,30 @@ pub record Known (c : Config) (hs : List Happened) (w : World) : Type 0 where
   pub booked : AllBooked w.state.sequencers w.made
   pub waiting : AllWaiting w.state.sequencers
   pub knows : AllKnow w.state.sequencers
+  pub shows : AllShow w.state.sequencers
   pub setting : Setting c hs w
   pub places : InPlace w.state.network
   pub over : AllOver w.state.sequencers
   pub low : AllLow c hs w.state.sequencers w.state
+  pub relost : Relosing c hs w
+  pub trims : TrimsTold w
 
 pub known_kept : (c : Config) → IsInBounds c → Keeps c (Known c)
 known_kept c b = record {
-  begins = record { lined = (waiting_kept c b).begins.0; sealing = (sealed_kept c).begins; booked = (booked_kept c).begins.1; waiting = (waiting_kept c b).begins.1; knows = (knows_kept c b).begins.1; setting = (sets_kept c b).begins; places = (places_kept c).begins.1; over = (over_kept c).begins.1; low = (low_kept c).begins.1 };
+  begins = record { lined = (waiting_kept c b).begins.0; sealing = (sealed_kept c).begins; booked = (booked_kept c).begins.1; waiting = (waiting_kept c b).begins.1; knows = (knows_kept c b).begins.1; shows = (shows_kept c).begins.1; setting = (sets_kept c b).begins; places = (places_kept c).begins.1; over = (over_kept c).begins.1; low = (low_kept c).begins.1; relost = (relost_kept c).begins; trims = (trims_kept c).begins.1 };
   goes_on = λ hs w e K. let a = (waiting_kept c b).goes_on hs w e (K.lined, K.waiting) in record {
     lined = a.0;
     sealing = (sealed_kept c).goes_on hs w e K.sealing;
     booked = ((booked_kept c).goes_on hs w e (K.sealing.0.0, K.booked)).1;
     waiting = a.1;
     knows = ((knows_kept c b).goes_on hs w e (K.lined, K.knows)).1;
+    shows = ((shows_kept c).goes_on hs w e (K.sealing.0.0, K.shows)).1;
     setting = (sets_kept c b).goes_on hs w e K.setting;
     places = ((places_kept c).goes_on hs w e (K.sealing.0.0, K.places)).1;
     over = ((over_kept c).goes_on hs w e (K.sealing.0.0, K.over)).1;
     low = ((low_kept c).goes_on hs w e (K.lined.0, K.low)).1;
+    relost = (relost_kept c).goes_on hs w e K.relost;
+    trims = ((trims_kept c).goes_on hs w e (K.lined.0, K.trims)).1;
   };
 }
 
@@ -155,7 +164,7 @@ module _ (c : Config) (hs : List Happened) (w : World) (K : Known c hs w) (W : (
   pub closed_so : (l e : ℕ) (z : Summary) → 0 < e → find e (epochs_of s.register l).summaries ≡ Some z → ClosedBy c hs w.made s.network.sent s.register l e z
   closed_so l e z p f = elim (along.1.said.register l e z f).1 [ inl a ↦ absurd (let u = a.0 in omega arith) | inr a ↦ a ]
 
-  no_loss : (g : Log) (e : ℕ) → g.lost ≡ false → is_lost g e ≡ true → ⊥
+  pub no_loss : (g : Log) (e : ℕ) → g.lost ≡ false → is_lost g e ≡ true → ⊥
   no_loss g e n t = let p = and_parts g.lost _ t in let k : true ≡ false = sym p.0 ∙ n in cc
 
   pub clean_found : (g : Log) (e : ℕ) → 0 < e → is_some (summary_at g e) ≡ true → (z : Summary) × (find e g.summaries ≡ Some z)

@@ -24,7 +24,7 @@ use Rattle.ld_safety.proofs.Appends.{RowOf}
 use Rattle.ld_safety.proofs.Base.{counts_of}
 use Rattle.ld_safety.proofs.Continues.{reply_continues, retry_continues}
 use Rattle.ld_safety.proofs.SequencerSteps.{gone_of, replied, retried}
-use Rattle.ld_calm.proofs.InRun.{calm_ends}
+use Rattle.ld_calm.proofs.InRun.{calm_ends_after}
 use Rattle.ld_served.specs.Served.{AllWell, NoLimit, WellStays}
 use Rattle.ld_served.proofs.Phases.{Parts, Unlimited, at_last}
 use Rattle.ld_served.proofs.Stepping.{delivered, ticking, polling, announcing}
@@ -47,13 +47,17 @@ run_on c b s m R = record {
   known = (known_kept c b).goes_on R.steps (record { state = s; made = R.made; joined = R.joined }) m R.known;
 }
 
-pub after_run : (c : Config) → IsInBounds c → (es : List Event) → OfRun c (state_after c (start c) es)
-after_run c b es = let w : World = world_after c (begin c) (run.moves c es) in subst (OfRun c) (steps_are_the_trace c es).1 (record {
-  steps = trace c (begin c) (run.moves c es);
+pub after_steps : (c : Config) → IsInBounds c → (ms : List Move) → OfRun c (world_after c (begin c) ms).state
+after_steps c b ms = let w : World = world_after c (begin c) ms in record {
+  steps = trace c (begin c) ms;
   made = w.made;
   joined = w.joined;
-  known = later c (Known c) (known_kept c b) [] (begin c) (run.moves c es) (known_kept c b).begins;
-})
+  known = later c (Known c) (known_kept c b) [] (begin c) ms (known_kept c b).begins;
+}
+
+-- what holds after any steps holds after any events
+pub after_events : (c : Config) (P : State → Type 0) → ((ms : List Move) → P (world_after c (begin c) ms).state) → (es : List Event) → P (state_after c (start c) es)
+after_events c P h es = subst P (steps_are_the_trace c es).1 (h (run.moves c es))
 
 -- ---- each log's last sequencer ----
 abbrev pub AllFree : List (List ℕ × Sequencer) → Type 0
@@ -127,7 +131,7 @@ module _ (c : Config) (b : IsInBounds c) (s : State) (G : Good c s) where
 
 -- ---- a whole calm ----
 
-good_parts : (c : Config) → IsInBounds c → Parts c (λ s ps. Good c s)
+pub good_parts : (c : Config) → IsInBounds c → Parts c (λ s ps. Good c s)
 good_parts c b = record {
   announced = λ s l ps q G e g u. good_announces c b s G l q e g;
   silent = λ s l ps G h. G;
@@ -175,6 +179,9 @@ well_last c t G = record {
   free = λ l q e. (G.free l q.0 q.1 (last_is t l q G.of_run.known.lined.0.0.0.0.0.0 e)).free;
 }
 
+well_after : (c : Config) → IsInBounds c → (ms : List Move) → let s : State = (world_after c (begin c) ms).state in AllWell c s → NoLimit (calms c s) → AllWell c (calms c s).state
+well_after c b ms A U = let s : State = (world_after c (begin c) ms).state in
+    well_last c (calms c s).state (at_last c (λ s ps. Good c s) (good_parts c b) (calm_fuel c s) s (all_left c s) (good_first c s (after_steps c b ms) A) (calm_ends_after c ms b).0 (unlimited (calms c s) U))
+
 pub well_stays : WellStays
-well_stays c es b A U = let s : State = state_after c (start c) es in
-    well_last c (calms c s).state (at_last c (λ s ps. Good c s) (good_parts c b) (calm_fuel c s) s (all_left c s) (good_first c s (after_run c b es) A) (calm_ends c es b).0 (unlimited (calms c s) U))
+well_stays c es b = after_events c (λ s. AllWell c s → NoLimit (calms c s) → AllWell c (calms c s).state) (well_after c b) es

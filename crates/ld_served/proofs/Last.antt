@@ -80,7 +80,7 @@ last_found l o (q ∷ qs) p h = by_log (q.1.log == l) refl (λ z. last_found l z
   }
 
 -- where a name is found, the pair is there
-named_in : (name : List ℕ) (qs : List (List ℕ × Sequencer)) (q : Sequencer) → find_named name qs ≡ Some q → (p : List ℕ × Sequencer) × In p qs × (p.1 ≡ q)
+pub named_in : (name : List ℕ) (qs : List (List ℕ × Sequencer)) (q : Sequencer) → find_named name qs ≡ Some q → (p : List ℕ × Sequencer) × In p qs × (p.1 ≡ q)
 unfolding find_named
 named_in name [] q h = absurd (not_none h)
 named_in name (p ∷ qs) q h = by_same (same name p.0) (named_in name qs q) h where

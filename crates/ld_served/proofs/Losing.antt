@@ -89,10 +89,10 @@ one_more : (y z : ℕ) (xs : List ℕ) → is_in z xs ≡ true → is_in z (xs +
 one_more y z [] h = absurd cc
 one_more y z (x ∷ xs) h = elim (or_cases (x == z) (is_in z xs) h) [ inl a ↦ or_left (x == z) (is_in z (xs ++ y ∷ [])) a | inr a ↦ or_right (x == z) (is_in z (xs ++ y ∷ [])) (one_more y z xs a) ]
 
-one_there : (y : ℕ) (xs : List ℕ) → is_in y (with_one y xs) ≡ true
+pub one_there : (y : ℕ) (xs : List ℕ) → is_in y (with_one y xs) ≡ true
 one_there y xs = cond_both (is_in y xs) xs (xs ++ y ∷ []) (λ l. is_in y l ≡ true) (λ t. t) (λ t. one_end y xs)
 
-one_keeps : (y z : ℕ) (xs : List ℕ) → is_in z xs ≡ true → is_in z (with_one y xs) ≡ true
+pub one_keeps : (y z : ℕ) (xs : List ℕ) → is_in z xs ≡ true → is_in z (with_one y xs) ≡ true
 one_keeps y z xs h = cond_both (is_in y xs) xs (xs ++ y ∷ []) (λ l. is_in z l ≡ true) (λ t. h) (λ t. one_more y z xs h)
 
 -- ---- a digest that is spent ----

@@ -102,7 +102,7 @@ module _ (c : Config) (s : State) (A : Good c s) (l : ℕ) where
   ticked_same n k (Asks from) = refl
   ticked_same n k Nothing = refl
 
-  delivers_no_more : (i : ℕ) → NoMore l s.sequencers (moved c s (Takes (events.Deliver i))).state.sequencers
+  pub delivers_no_more : (i : ℕ) → NoMore l s.sequencers (moved c s (Takes (events.Deliver i))).state.sequencers
   unfolding finish
   delivers_no_more i = delivered c s i (λ d. NoMore l s.sequencers d.state.sequencers) (names c s A) (record {
     unheard = λ k. same_last l s.sequencers;
@@ -113,15 +113,15 @@ module _ (c : Config) (s : State) (A : Good c s) (l : ℕ) where
     to_reader = λ name d m f t v. same_last l s.sequencers;
   })
 
-  ticks_no_more : (n k : ℕ) → NoMore l s.sequencers (moved c s (Takes (events.Tick n k))).state.sequencers
+  pub ticks_no_more : (n k : ℕ) → NoMore l s.sequencers (moved c s (Takes (events.Tick n k))).state.sequencers
   unfolding finish
   ticks_no_more n k = ticking c s n k (λ d. NoMore l s.sequencers d.state.sequencers) (record { still = λ h. same_last l s.sequencers; ticks = λ t g v h. subst (NoMore l s.sequencers) (sym (ticked_same n k t)) (same_last l s.sequencers) })
 
-  polls_no_more : (name : List ℕ) → NoMore l s.sequencers (moved c s (Takes (events.Poll name))).state.sequencers
+  pub polls_no_more : (name : List ℕ) → NoMore l s.sequencers (moved c s (Takes (events.Poll name))).state.sequencers
   unfolding finish
   polls_no_more name = polling c s name (λ d. NoMore l s.sequencers d.state.sequencers) (record { still = λ k. same_last l s.sequencers; polls = λ d v. same_last l s.sequencers })
 
-  announces_no_more : (k : ℕ) (q : List ℕ × Sequencer) → last_of s k ≡ Some q → q.1.gone ≡ false → NoMore l s.sequencers (moved c s (Calms q.0)).state.sequencers
+  pub announces_no_more : (k : ℕ) (q : List ℕ × Sequencer) → last_of s k ≡ Some q → q.1.gone ≡ false → NoMore l s.sequencers (moved c s (Calms q.0)).state.sequencers
   unfolding finish
   announces_no_more k q e g = let f = (last_is s k q (names c s A).0 e).named in
       announcing c s q.0 q.1 (λ d. NoMore l s.sequencers d.state.sequencers) f g (let z = retry_continues c s q.1 (rows q.0 q.1 f) g in

@@ -45,18 +45,18 @@ marked_way w i k m e u = elim (cases_Bool (i == u.0)) [
 slice_step : {X : Type 0} (x : X) (xs : List X) (n k : ℕ) → n ≡ suc k → slice_get (x ∷ xs) n ≡ slice_get xs k
 slice_step x xs n k e = ap (slice_get (x ∷ xs)) e
 
-message_stays : (w : Network) (m : Msg) (i : ℕ) → i < w.count → message (send w m) i ≡ message w i
+pub message_stays : (w : Network) (m : Msg) (i : ℕ) → i < w.count → message (send w m) i ≡ message w i
 unfolding message
 message_stays w m i h =
     let a : nat_lt i w.count ≡ true = lt-ltb i w.count h in let b : nat_lt i (w.count + 1) ≡ true = lt-ltb i (w.count + 1) (omega arith) in
     (λ j. if b j then slice_get (m ∷ w.sent) (w.count + 1 - 1 - i) else None) ∙ (slice_step m w.sent (w.count + 1 - 1 - i) (w.count - 1 - i) (omega arith) ∙ sym (λ j. if a j then slice_get w.sent (w.count - 1 - i) else None))
 
-message_new : (w : Network) (m : Msg) → message (send w m) w.count ≡ Some m
+pub message_new : (w : Network) (m : Msg) → message (send w m) w.count ≡ Some m
 unfolding message
 message_new w m = let b : nat_lt w.count (w.count + 1) ≡ true = lt-ltb w.count (w.count + 1) (omega arith) in
     (λ j. if b j then slice_get (m ∷ w.sent) (w.count + 1 - 1 - w.count) else None) ∙ ap (slice_get (m ∷ w.sent)) (let z : w.count + 1 - 1 - w.count ≡ 0 = omega arith in z)
 
-send_in_place : (w : Network) (m : Msg) → InPlace w → InPlace (send w m)
+pub send_in_place : (w : Network) (m : Msg) → InPlace w → InPlace (send w m)
 send_in_place w m h = record {
   count = let c = h.count in let s : w.count + 1 ≡ suc (length w.sent) = omega arith in s;
   fresh = λ i j. elim (In-append i w.fresh (w.count ∷ []) j) [ inl a ↦ (let z = h.fresh i a in omega arith) | inr (inl e) ↦ (let z : i ≡ w.count = e in omega arith) | inr (inr a) ↦ absurd a ];
@@ -79,7 +79,7 @@ module _ (c : Config) (s : State) (N : NamesOnce s) (P : InPlace s.network) wher
   handled_network t n m None a = refl
   handled_network t n m (Some o) a = refl
 
-  delivered_network : (i : ℕ) (k : Msg) → message s.network i ≡ Some k → (moves c s (Takes (events.Deliver i))).state.network ≡ mark s.network i
+  pub delivered_network : (i : ℕ) (k : Msg) → message s.network i ≡ Some k → (moves c s (Takes (events.Deliver i))).state.network ≡ mark s.network i
   delivered_network i k e = delivered c s i (λ d. d.state.network ≡ mark s.network i) N (record {
     unheard = λ h. refl;
     none = λ h. absurd (not_none (sym h ∙ e));

@@ -12,9 +12,9 @@ use Rattle.ld_op.specs.Plain.{log_of, summary_at}
 use Rattle.ld_machine.specs.Config.{all_nodes, has_log}
 use Rattle.ld_machine.specs.Disk.{is_up}
 use Rattle.ld_machine.specs.State.{State, Stepped, start, node_at}
-use Rattle.ld_machine.specs.Calm.{last_of, calms}
-use Rattle.ld_machine.specs.World.{In}
-use Rattle.ld_machine.specs.Run.{state_after}
+use Rattle.ld_machine.specs.Calm.{Move, last_of, calms}
+use Rattle.ld_machine.specs.World.{In, begin}
+use Rattle.ld_machine.specs.Run.{state_after, world_after}
 
 -- ---- before ----
 
@@ -68,7 +68,17 @@ abbrev pub ClosedIsClean : Type 0
 ClosedIsClean = (c : Config) (es : List Event) → IsInBounds c → let s : State = state_after c (start c) es in let r : Stepped = calms c s in AllWell c s → NoLimit r
     → (l n e : ℕ) → has_log c l ≡ true → In n (all_nodes c) → 1 ≤ e → e ≤ lce_of s.register l → is_some (summary_at (log_of (node_at r.state n).plain l) e) ≡ true
 
--- and every log is served: what a calm is for as a whole, which isn't proved yet
+-- no append of a log's last sequencer waits after it, and each epoch before the sequencer's own is closed, and clean on every node of the configuration
+abbrev pub CalmSettles : Type 0
+CalmSettles = (c : Config) (es : List Event) → IsInBounds c → let s : State = state_after c (start c) es in let r : Stepped = calms c s in AllWell c s → NoLimit r
+    → (l : ℕ) (q : List ℕ × Sequencer) → has_log c l ≡ true → last_of r.state l ≡ Some q → IsSettled c r.state l q.1
+
+-- and every log is served: what a calm is for as a whole
 abbrev pub CalmServes : Type 0
 CalmServes = (c : Config) (es : List Event) → IsInBounds c → let s : State = state_after c (start c) es in let r : Stepped = calms c s in
+    AllWell c s → NoLimit r → (l : ℕ) → has_log c l ≡ true → IsServed c r.state l
+
+-- and so it is after any steps
+abbrev pub CalmServesAfter : Type 0
+CalmServesAfter = (c : Config) (ms : List Move) → IsInBounds c → let s : State = (world_after c (begin c) ms).state in let r : Stepped = calms c s in
     AllWell c s → NoLimit r → (l : ℕ) → has_log c l ≡ true → IsServed c r.state l
