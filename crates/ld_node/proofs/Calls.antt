@@ -5,8 +5,10 @@ use Rattle.ld_disk.specs.declared.disk.Disk.{Ghosts}
 use Rattle.ld_disk.proofs.Runs.{started, stays_on}
 use Rattle.ld_op.specs.Plain.{Plain}
 use Rattle.ld_store.specs.Ops.{StandsForEither}
+use Rattle.ld_store.specs.Ahead.{HoldsOr}
 use Rattle.ld_store.specs.Open.{disk_of, plain_of, told_plain, Holds}
 use Rattle.ld_store.specs.declared.store.Store.{Store}
+use Rattle.ld_store.proofs.Ahead.{leaves_stand}
 use Rattle.ld_store.proofs.Holding.{images_stand}
 
 module _ {D : Type 0} (seen : D → Option (List ℕ)) (may_leave : D → List ℕ → Type 0) (moment : D → ℕ) (left_since : D → ℕ → List ℕ → Type 0) where
@@ -27,6 +29,13 @@ module _ {D : Type 0} (seen : D → Option (List ℕ)) (may_leave : D → List �
   reads_leave old new q now holds same =
       stays_on moment left_since seen may_leave (disk_of old) (disk_of old) new (StandsForEither (plain_of old) q)
       (started moment left_since (disk_of old) (StandsForEither (plain_of old) q) (λ c left. inl (images_stand seen may_leave old holds c (now (disk_of old) c left)))) same
+
+  -- and where ops are staged
+  pub reads_leave_staged : {g : Ghosts D} (old : Store D g) (new : D) (p q : Plain) → ((d : D) (c : List ℕ) → left_since d (moment d) c → may_leave d c) → HoldsOr seen may_leave old p
+      → Unchanged seen may_leave moment left_since (disk_of old) new → LeavesOnly moment left_since (disk_of old) new (StandsForEither p q)
+  reads_leave_staged old new p q now holds same =
+      stays_on moment left_since seen may_leave (disk_of old) (disk_of old) new (StandsForEither p q)
+      (started moment left_since (disk_of old) (StandsForEither p q) (λ c left. inl (leaves_stand seen may_leave old p holds c (now (disk_of old) c left)))) same
 
 -- an index that stays, on a disk that reads the same, represents the same
 pub stands_for_same : (told told_now : Option (List ℕ)) (i j : Plain) → told_now ≡ told → j ≡ i → told_plain told_now j ≡ told_plain told i

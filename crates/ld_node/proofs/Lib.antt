@@ -13,3 +13,4 @@ pub mod Sends
 pub mod Keeping
 pub mod Draws
 pub mod Swaps
+pub mod Refusals

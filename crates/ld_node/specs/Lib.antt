@@ -7,5 +7,6 @@ pub mod Known
 pub mod Draws
 pub mod Formats
 pub mod Swaps
+pub mod Staged
 pub mod Looks
 pub mod Node

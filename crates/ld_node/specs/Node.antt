@@ -5,7 +5,9 @@ use Rattle.ld_op.specs.Plain.{Plain}
 use Rattle.ld_layout.specs.Layout.{Layout}
 use Rattle.ld_segment.specs.Lies.{Slots}
 use Rattle.ld_store.specs.Open as stores
+use Rattle.ld_store.specs.Ahead as ahead
 use Rattle.ld_node.specs.Known.{Known}
+use Rattle.ld_node.specs.Staged as stages
 use Rattle.ld_node.specs.declared.node.Node.{Node}
 
 module _ {D : Type 0} {g : Ghosts D} where
@@ -56,3 +58,11 @@ module _ {D : Type 0} {g : Ghosts D} (seen : D → Option (List ℕ)) (may_leave
   -- where these bytes represent a plain state, it holds that, with a mark behind a journal of the first version
   abbrev pub IsOpened : Node D g → List ℕ → Type 0
   IsOpened node bytes = stores.IsOpened seen may_leave node.store bytes
+
+  -- its store holds what the disk has, and this is the plain state of that; or ops are staged, and what a crash leaves represents this one
+  abbrev pub HoldsOr : Node D g → Plain → Type 0
+  HoldsOr node p = ahead.HoldsOr seen may_leave node.store p
+
+  -- what a crash leaves represents one of these two plain states
+  abbrev pub HoldsEither : Node D g → Plain → Plain → Type 0
+  HoldsEither node p r = stages.HoldsEither seen may_leave node.store p r

@@ -4,7 +4,10 @@ ghost use Rattle.ld_io.specs.Causes.{Rose};
 ghost use Rattle.ld_disk.specs.Images.{IsHonest};
 ghost use Rattle.ld_disk.specs.Moments.{LeavesOnly, Unchanged};
 ghost use Rattle.ld_disk.specs.Plain.{Plain as DiskPlain, after_calls, all_succeed};
+ghost use Rattle.ld_op.specs.Plain.{Plain};
 ghost use Rattle.ld_store.specs.Ops.{StandsForEither};
+ghost use Rattle.ld_store.specs.Ahead.{HoldsOr};
+ghost use Rattle.ld_node.specs.Staged.{HoldsEither};
 ghost use Rattle.ld_store.specs.Open.{disk_of, layout_of, slots_of, must_load, is_blank, index_of, plain_of, Holds};
 ghost use Rattle.ld_node.specs.Changes.{AreChanges, kept, laid_with, slots_kept, calls_of, IsPast};
 ghost use Rattle.ld_register.specs.declared.fault.RegisterFault.{RegisterFault};
@@ -53,6 +56,43 @@ pub(crate) fn keep<D: Disk>(
     match op {
         Some(op) => {
             store.apply(alloc, op)?;
+            Ok(())
+        }
+        None => Ok(()),
+    }
+}
+
+/// Stages an op, where there is one.
+pub(crate) fn stage<D: Disk>(
+    alloc: Global,
+    store: &mut Store<D>,
+    op: Option<Op>,
+) -> Result<(), NodeFault>
+    requires op { AreChanges op }
+    requires formatted { is_blank store.old ≡ false }
+    requires works { must_load store.old ≡ false }
+    ensures staged { (p : Plain) → HoldsOr D.seen D.may_leave store.old p → OnOk result (HoldsEither D.seen D.may_leave store.new p (plain_of store.old)) }
+    ensures stays { (p : Plain) → HoldsOr D.seen D.may_leave store.old p → OnErr result (IsErrOf result NodeFault.Disk ⊎ ((plain_of store.new ≡ plain_of store.old) × HoldsEither D.seen D.may_leave store.new p (plain_of store.old))) }
+    ensures any_moment { (p : Plain) → HoldsOr D.seen D.may_leave store.old p
+        → LeavesOnly D.moment D.left_since (disk_of store.old) (disk_of store.new) (StandsForEither p (plain_of store.old)) }
+    ensures none { op ≡ None → result ≡ Ok tt }
+    ensures applied { (p : Plain) → HoldsOr D.seen D.may_leave store.old p → OnOk result (plain_of store.new ≡ kept op (plain_of store.old)) }
+    ensures refused { OnErr result ((index_of store.new ≡ index_of store.old) × (layout_of store.new ≡ layout_of store.old) × (slots_of store.new ≡ slots_of store.old)) }
+    ensures blank { is_blank store.new ≡ false }
+    ensures honest { IsHonest (D.seen (disk_of store.old)) → IsHonest (D.seen (disk_of store.new)) }
+    ensures full { (p : Plain) → HoldsOr D.seen D.may_leave store.old p → IsErrOf result NodeFault.Full → IsPast (layout_of store.old) op }
+    ensures needs_load { result ≢ Err NodeFault.NeedsLoad }
+    ensures loads { (must_load store.new ≡ true) ↔ IsErrOf result NodeFault.Disk }
+    ensures damaged { (place : ℕ) → result ≢ Err (NodeFault.Damaged place) }
+    ensures register { (fault : RegisterFault) → result ≢ Err (NodeFault.Register fault) }
+    ensures itself { D.identity (disk_of store.new) ≡ D.identity (disk_of store.old) }
+    ensures counts { D.faults (disk_of store.old) ≤ D.faults (disk_of store.new) }
+    ensures steady { IsErrOf result NodeFault.Disk ⊎ (D.faults (disk_of store.new) ≡ D.faults (disk_of store.old)) }
+    ensures failed { IsErrOf result NodeFault.Disk → Rose (D.faults (disk_of store.old)) (D.faults (disk_of store.new)) }
+{
+    match op {
+        Some(op) => {
+            store.stage(alloc, op)?;
             Ok(())
         }
         None => Ok(()),

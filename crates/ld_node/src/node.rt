@@ -1,6 +1,6 @@
 // A node over its store.
 use crate::NodeFault;
-use crate::keep::keep;
+use crate::keep::{keep, stage};
 use crate::known::Known;
 use crate::msgs::{release, released_by};
 use crate::settled::prepare;
@@ -41,7 +41,7 @@ impl<D: Disk> Node<D> {
     ghost use Rattle.ld_node.specs.Loads.{LoadRefused};
     ghost use Rattle.ld_node.specs.Changes.{kept, laid_with, slots_kept, calls_of, IsPast};
     ghost use Rattle.ld_node.specs.Msgs.{handled, released_after};
-    ghost use Rattle.ld_node.specs.Node.{id_of, known_of, released_of, disk_of, layout_of, slots_of, must_load, is_blank, index_of, plain_of, Holds, IsOpened};
+    ghost use Rattle.ld_node.specs.Node.{id_of, known_of, released_of, disk_of, layout_of, slots_of, must_load, is_blank, index_of, plain_of, Holds, HoldsOr, HoldsEither, IsOpened};
 
     /// Loads the node of this number from its disk, in one writing call. A journal of the first version is then marked
     /// as one of the second, by a record more, before which its segment may be switched; that leaves the plain state as
@@ -222,5 +222,93 @@ impl<D: Disk> Node<D> {
         release(&mut self.released, msg.log, number)?;
         keep(alloc, &mut self.store, op)?;
         Ok(replies)
+    }
+
+    /// What a node makes of a message, as `on_msg` does, but the op that it keeps is staged behind the others of its group:
+    /// it is there after a crash only once `commit` answered `Ok`, and until then no answer may be sent. Where the op needs a
+    /// new segment, what was staged before it is committed first.
+    ///
+    /// It refuses with `Full` where the op's record, or the segment that it needs, would pass the journal's limit, and
+    /// with `NoMemory`; then nothing has changed in memory, and the ops that were staged before may be durable. It refuses with
+    /// `Disk` where a call of the disk failed: the ops that were staged are then there, all or none, which the next load tells, and until
+    /// then each call answers `NeedsLoad`. It refuses with `Damaged(place)` as `on_msg` does.
+    pub fn stage_msg(&mut self, alloc: Global, msg: &Msg) -> Result<Replies, NodeFault>
+        requires msg { IsMessage msg.now }
+        requires formatted { is_blank self.old ≡ false }
+
+        // The answers are those of a step from the plain state with all that was staged.
+        ensures replies { (p : State) → HoldsOr D.seen D.may_leave self.old p
+            → IfOk result (λ replies. replies ≡ answer_message (id_of self.old) msg.now (handled (id_of self.old) (known_of self.old) (released_of self.old) (plain_of self.old) msg.now).answer) }
+        ensures messages { IfOk result (λ replies. AreMessages replies) }
+        ensures kept { (p : State) → HoldsOr D.seen D.may_leave self.old p
+            → OnOk result (plain_of self.new ≡ kept (handled (id_of self.old) (known_of self.old) (released_of self.old) (plain_of self.old) msg.now).op (plain_of self.old)) }
+        ensures released { OnOk result (released_of self.new ≡ released_after (id_of self.old) (known_of self.old) (released_of self.old) msg.now) }
+
+        // What a crash leaves then represents the plain state at the last commit, or, where it committed first, that with all
+        // that was staged before. The op itself isn't there.
+        ensures staged { (p : State) → HoldsOr D.seen D.may_leave self.old p → OnOk result (HoldsEither D.seen D.may_leave self.new p (plain_of self.old)) }
+        ensures stays { (p : State) → HoldsOr D.seen D.may_leave self.old p
+            → OnErr result (IsErrOf result NodeFault.Disk ⊎ ((plain_of self.new ≡ plain_of self.old) × HoldsEither D.seen D.may_leave self.new p (plain_of self.old))) }
+        ensures any_moment { (p : State) → HoldsOr D.seen D.may_leave self.old p
+            → LeavesOnly D.moment D.left_since (disk_of self.old) (disk_of self.new) (StandsForEither p (plain_of self.old)) }
+
+        // No refusal but `Disk` changes anything in memory.
+        ensures refused { OnErr result (IsErrOf result NodeFault.Disk ⊎ ((index_of self.new ≡ index_of self.old) × (layout_of self.new ≡ layout_of self.old) × (slots_of self.new ≡ slots_of self.old) × (released_of self.new ≡ released_of self.old))) }
+        ensures rest { (id_of self.new ≡ id_of self.old) × (known_of self.new ≡ known_of self.old) × (is_blank self.new ≡ false) }
+        ensures honest { IsHonest (D.seen (disk_of self.old)) → IsHonest (D.seen (disk_of self.new)) }
+        ensures full { (p : State) → HoldsOr D.seen D.may_leave self.old p
+            → IsErrOf result NodeFault.Full → IsPast (layout_of self.old) (handled (id_of self.old) (known_of self.old) (released_of self.old) (plain_of self.old) msg.now).op }
+        ensures needs_load { IsErrOf result NodeFault.NeedsLoad ↔ (must_load self.old ≡ true) }
+        ensures loads { (must_load self.new ≡ true) ↔ ((must_load self.old ≡ true) ⊎ IsErrOf result NodeFault.Disk) }
+        ensures register { (fault : Refusal) → result ≢ Err (NodeFault.Register fault) }
+        ensures damaged { (p : State) (place : ℕ) → HoldsOr D.seen D.may_leave self.old p → result ≢ Err (NodeFault.Damaged place) }
+        ensures itself { D.identity (disk_of self.new) ≡ D.identity (disk_of self.old) }
+        ensures counts { D.faults (disk_of self.old) ≤ D.faults (disk_of self.new) }
+        ensures steady { IsErrOf result NodeFault.Disk ⊎ (D.faults (disk_of self.new) ≡ D.faults (disk_of self.old)) }
+        ensures failed { IsErrOf result NodeFault.Disk → Rose (D.faults (disk_of self.old)) (D.faults (disk_of self.new)) }
+    {
+        if self.store.needs_load() {
+            return Err(NodeFault::NeedsLoad);
+        }
+        let (op, replies) = prepare(
+            alloc,
+            self.id,
+            &self.known,
+            &self.released,
+            &mut self.store,
+            msg,
+        )?;
+        let number = released_by(self.id, &self.known, msg);
+        release(&mut self.released, msg.log, number)?;
+        stage(alloc, &mut self.store, op)?;
+        Ok(replies)
+    }
+
+    /// Makes the ops that were staged durable, in three writing calls where there are some, and in none where there are none.
+    ///
+    /// It refuses with `NoMemory`, when they are still staged, and with `Disk` where a call of the disk failed: the ops are then
+    /// there, all or none, which the next load tells, and until then each call answers `NeedsLoad`.
+    pub fn commit(&mut self) -> Result<(), NodeFault>
+        ensures durable { (p : State) → HoldsOr D.seen D.may_leave self.old p → OnOk result (Holds D.seen D.may_leave self.new) }
+        ensures plain { (p : State) → HoldsOr D.seen D.may_leave self.old p → OnOk result (plain_of self.new ≡ plain_of self.old) }
+        ensures same { (index_of self.new ≡ index_of self.old) × (layout_of self.new ≡ layout_of self.old) × (slots_of self.new ≡ slots_of self.old) × (released_of self.new ≡ released_of self.old) }
+        ensures rest { (id_of self.new ≡ id_of self.old) × (known_of self.new ≡ known_of self.old) × (is_blank self.new ≡ is_blank self.old) }
+
+        // A crash at any moment of the call leaves what represents the plain state at the last commit or that with all that was
+        // staged.
+        ensures any_moment { (p : State) → HoldsOr D.seen D.may_leave self.old p
+            → LeavesOnly D.moment D.left_since (disk_of self.old) (disk_of self.new) (StandsForEither p (plain_of self.old)) }
+        ensures honest { IsHonest (D.seen (disk_of self.old)) → IsHonest (D.seen (disk_of self.new)) }
+        ensures refused { OnErr result (IsErrOf result NodeFault.Disk ⊎ (IsErrOf result NodeFault.NoMemory ⊎ IsErrOf result NodeFault.NeedsLoad)) }
+        ensures holds { (p : State) → HoldsOr D.seen D.may_leave self.old p → OnErr result (IsErrOf result NodeFault.Disk ⊎ HoldsOr D.seen D.may_leave self.new p) }
+        ensures needs_load { IsErrOf result NodeFault.NeedsLoad ↔ (must_load self.old ≡ true) }
+        ensures loads { (must_load self.new ≡ true) ↔ ((must_load self.old ≡ true) ⊎ IsErrOf result NodeFault.Disk) }
+        ensures itself { D.identity (disk_of self.new) ≡ D.identity (disk_of self.old) }
+        ensures counts { D.faults (disk_of self.old) ≤ D.faults (disk_of self.new) }
+        ensures steady { IsErrOf result NodeFault.Disk ⊎ (D.faults (disk_of self.new) ≡ D.faults (disk_of self.old)) }
+        ensures failed { IsErrOf result NodeFault.Disk → Rose (D.faults (disk_of self.old)) (D.faults (disk_of self.new)) }
+    {
+        self.store.commit()?;
+        Ok(())
     }
 }

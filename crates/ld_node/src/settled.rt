@@ -7,10 +7,12 @@ ghost use Rattle.ld_disk.specs.Moments.{Unchanged};
 ghost use Rattle.ld_disk.specs.Plain.{Plain as DiskPlain, reads_fine};
 ghost use Rattle.ld_op.specs.Cells.{each_body, byte_at};
 ghost use Rattle.ld_op.specs.Handles.{answer_message};
+ghost use Rattle.ld_op.specs.Plain.{Plain};
 ghost use Rattle.ld_msg.specs.Bounds.{IsMessage};
 ghost use Rattle.ld_node_bounds.specs.Messages.{AreMessages};
 ghost use Rattle.ld_seal.specs.Decided.{payload_of, stands_there};
 ghost use Rattle.ld_store.specs.Open.{disk_of, layout_of, slots_of, must_load, is_blank, index_of, plain_of, within, Holds};
+ghost use Rattle.ld_store.specs.Ahead.{HoldsOr};
 ghost use Rattle.ld_register.specs.declared.fault.RegisterFault.{RegisterFault};
 ghost use Rattle.ld_node.specs.Changes.{AreChanges};
 ghost use Rattle.ld_node.specs.Msgs.{handled, released_by};
@@ -49,10 +51,13 @@ pub(crate) fn prepare<D: Disk>(
     requires works { must_load store.old ≡ false }
     ensures op { Holds D.seen D.may_leave store.old → IfOk result (λ done. done.0 ≡ (handled id known.now released.now.entries (plain_of store.old) msg.now).op) }
     ensures replies { Holds D.seen D.may_leave store.old → IfOk result (λ done. done.1 ≡ answer_message id msg.now (handled id known.now released.now.entries (plain_of store.old) msg.now).answer) }
+    ensures op_staged { (p : Plain) → HoldsOr D.seen D.may_leave store.old p → IfOk result (λ done. done.0 ≡ (handled id known.now released.now.entries (plain_of store.old) msg.now).op) }
+    ensures replies_staged { (p : Plain) → HoldsOr D.seen D.may_leave store.old p → IfOk result (λ done. done.1 ≡ answer_message id msg.now (handled id known.now released.now.entries (plain_of store.old) msg.now).answer) }
     ensures change { IfOk result (λ done. AreChanges done.0) }
     ensures released { IfOk result (λ done. (y : ℕ) → released_by id known.now msg.now ≡ Some y → done.0 ≡ None) }
     ensures messages { IfOk result (λ done. AreMessages done.1) }
     ensures held { Holds D.seen D.may_leave store.old → OnOk result (Holds D.seen D.may_leave store.new) }
+    ensures held_staged { (p : Plain) → HoldsOr D.seen D.may_leave store.old p → OnOk result (HoldsOr D.seen D.may_leave store.new p) }
     ensures working { OnOk result (must_load store.new ≡ false) }
     ensures fine { OnOk result (D.faults (disk_of store.new) ≡ D.faults (disk_of store.old)) }
     ensures plain { plain_of store.new ≡ plain_of store.old }
@@ -62,7 +67,9 @@ pub(crate) fn prepare<D: Disk>(
     ensures rest { (layout_of store.new ≡ layout_of store.old) × (slots_of store.new ≡ slots_of store.old) × (index_of store.new ≡ index_of store.old) × (is_blank store.new ≡ is_blank store.old) }
     ensures holds { Holds D.seen D.may_leave store.old
         → IsErrOf result NodeFault.Disk ⊎ Holds D.seen D.may_leave store.new }
+    ensures ahead { (p : Plain) → HoldsOr D.seen D.may_leave store.old p → IsErrOf result NodeFault.Disk ⊎ HoldsOr D.seen D.may_leave store.new p }
     ensures damaged { (place : ℕ) → Holds D.seen D.may_leave store.old → result ≢ Err (NodeFault.Damaged place) }
+    ensures damaged_staged { (p : Plain) (place : ℕ) → HoldsOr D.seen D.may_leave store.old p → result ≢ Err (NodeFault.Damaged place) }
     ensures refused { Holds D.seen D.may_leave store.old → OnErr result (IsErrOf result NodeFault.Disk ⊎ IsErrOf result NodeFault.NoMemory) }
     ensures full { result ≢ Err NodeFault.Full }
     ensures needs_load { result ≢ Err NodeFault.NeedsLoad }
@@ -101,6 +108,7 @@ pub(crate) fn settle<D: Disk>(
     ensures rest { (layout_of store.new ≡ layout_of store.old) × (slots_of store.new ≡ slots_of store.old) × (index_of store.new ≡ index_of store.old) × (is_blank store.new ≡ is_blank store.old) }
     ensures holds { Holds D.seen D.may_leave store.old
         → IsErrOf result NodeFault.Disk ⊎ Holds D.seen D.may_leave store.new }
+    ensures ahead { (p : Plain) → HoldsOr D.seen D.may_leave store.old p → IsErrOf result NodeFault.Disk ⊎ HoldsOr D.seen D.may_leave store.new p }
     ensures full { result ≢ Err NodeFault.Full }
     ensures needs_load { result ≢ Err NodeFault.NeedsLoad }
     ensures register { (fault : RegisterFault) → result ≢ Err (NodeFault.Register fault) }
@@ -154,6 +162,7 @@ fn is_there<D: Disk>(
     ensures rest { (layout_of store.new ≡ layout_of store.old) × (slots_of store.new ≡ slots_of store.old) × (index_of store.new ≡ index_of store.old) × (is_blank store.new ≡ is_blank store.old) }
     ensures holds { Holds D.seen D.may_leave store.old
         → IsErrOf result NodeFault.Disk ⊎ Holds D.seen D.may_leave store.new }
+    ensures ahead { (p : Plain) → HoldsOr D.seen D.may_leave store.old p → IsErrOf result NodeFault.Disk ⊎ HoldsOr D.seen D.may_leave store.new p }
     ensures full { result ≢ Err NodeFault.Full }
     ensures needs_load { result ≢ Err NodeFault.NeedsLoad }
     ensures register { (fault : RegisterFault) → result ≢ Err (NodeFault.Register fault) }

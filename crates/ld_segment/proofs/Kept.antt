@@ -19,8 +19,9 @@ use Rattle.ld_segment.specs.Stays.{StaysOutside}
 use Rattle.ld_segment.specs.Left.{staged, IsRecordTorn}
 use Rattle.ld_segment.specs.Ops.{placed_record}
 use Rattle.ld_segment.specs.Lies.{Slots, after_base, IsLater, IsIndexed, LiesAs, IsSound, written, gate_in, with_body}
+use Rattle.ld_disk.proofs.Overwrites.{torn_whole}
 use Rattle.ld_segment.proofs.Ranges.{widened, torn_round, written_round, torn_one}
-use Rattle.ld_segment.proofs.Rows.{early, shut_late, is_there, round_it, round_done, length-behind}
+use Rattle.ld_segment.proofs.Rows.{early, shut_late, is_there, round_it, round_done, length-behind, body_behind}
 use Rattle.ld_segment.proofs.Bodies.{record_fits, never_again}
 use Rattle.ld_segment.proofs.Standing.{Standing, byte_outside, index_same}
 use Rattle.ld_segment.proofs.OneRead.{one_read}
@@ -66,7 +67,7 @@ pub written_more : (opening : Version) (y : Layout) (z : Slots) (a : Option Segm
 written_more opening y z None rs b limit o is = let more : (y.ops + 1 == 0) ≡ false = grind (arith, nat_tests) in ap (λ t. cond t Blank Second) more
 written_more opening y z (Some g) rs b limit o is = ap (λ t. cond t Blank Second) (some_ops opening y z g y.index b is)
 
-more_index : (y : Layout) (a : Option Segment) (limit : ℕ) (v : Record) → (more y a limit v).index ≡ applied y.index (placed_record (gate_in y a + 5) v)
+pub more_index : (y : Layout) (a : Option Segment) (limit : ℕ) (v : Record) → (more y a limit v).index ≡ applied y.index (placed_record (gate_in y a + 5) v)
 more_index y None limit v = refl
 more_index y (Some g) limit v = refl
 
@@ -143,6 +144,14 @@ module _ (version next : Version) (p : Plain) (y : Layout) (z : Slots) (b : List
         lies = with_more left.lies.first version y z left.lies.records b left.lies.end_is done (gate + 6 + length body) v is_record next follows limit y.later left.lies.index_is sound.laid.live sound.laid.segment round left.lies.journal long left.lies.placed left.lies.ops_is journal;
         plain = ap (read_plain done) (more_index y y.later limit v) ∙ one_read (gate + 5) y.index p v done stands.0 is_record stands.1 (index_stays done round ∙ left.plain);
       }
+
+  -- before its gate is open, its payload is read where it will be
+  pub early_read : read_plain (staged gate body b) (more y y.later limit v).index ≡ applied p v
+  early_read =
+      let now = staged gate body b in
+      let stands = body_behind gate body b in
+      let round = round_first now (torn_whole (gate + 1) (behind body) b) in
+      ap (read_plain now) (more_index y y.later limit v) ∙ one_read (gate + 5) y.index p v now stands.0 is_record stands.1 (index_stays now round ∙ left.plain)
 
   staged_long : gate < length (staged gate body b)
   staged_long = let stays = written_round (gate + 1) (behind body) b inside in omega (arith, stays.no_shorter, inside)

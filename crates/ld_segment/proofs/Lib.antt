@@ -2,6 +2,7 @@ pub mod Steps
 pub mod Ranges
 pub mod Choices
 pub mod Rows
+pub mod Tearing
 pub mod Lists
 pub mod ReadSlots
 pub mod CurrentSlots
@@ -20,6 +21,7 @@ pub mod Heading
 pub mod Switched
 pub mod Limits
 pub mod OpRow
+pub mod Groups
 pub mod Decides
 pub mod Durable
 pub mod OpPictures

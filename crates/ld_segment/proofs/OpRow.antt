@@ -90,17 +90,22 @@ module _ (y : Layout) (z : Slots) (b : List ℕ) (o : Op) (lies : LiesAs (writte
     unfolding switches
     not_full = (or_parts (is_full_first y y.later) (is_full_later n y.later) goes).1
 
-    apart : (k : ℕ) → Standing y y.later k → (k < gate_in y y.later) ⊎ (gate_in y y.later + 6 + length body ≤ k)
+    pub apart : (k : ℕ) → Standing y y.later k → (k < gate_in y y.later) ⊎ (gate_in y y.later + 6 + length body ≤ k)
     apart k at = off_record y y.later (gate_in y y.later + 6 + length body) k sound.laid.live sound.laid.segment (fits_area y y.later (Now o) not_full) at
 
     here_version : written (more y y.later (limit_of y.later) (Now o)) ≡ Second
     here_version = written_more lies.first y z y.later lies.records b (limit_of y.later) o lies.index_is
 
-    kept_here : more y y.later (limit_of y.later) (Now o) ≡ kept_in y o
+    pub kept_here : more y y.later (limit_of y.later) (Now o) ≡ kept_in y o
     kept_here = sym (ap (λ t. with_record (cond t (switched_to y (record_length n) (record_length n)) y) o) goes ∙ with_is y o)
 
     pub here_staged : (c : List ℕ) → Torn (gate_in y y.later + 1) (length (behind body)) b c → Left p y z c
     here_staged c torn = kept.not_staged (written y) Second p y z b as_it_is sound (Now o) may.op follows (limit_of y.later) (limit_stays y.later (Now o) not_full) apart c torn
+
+    -- what is staged is read where it will be
+    pub here_early : read_plain (staged (gate_in y y.later) body b) (kept_in y o).index ≡ q
+    here_early = subst (λ x. read_plain (staged (gate_in y y.later) body b) x.index ≡ q) kept_here
+        (kept.early_read (written y) Second p y z b as_it_is sound (Now o) may.op follows (limit_of y.later) (limit_stays y.later (Now o) not_full) apart)
 
     pub here_shut : (c : List ℕ) → Torn (gate_in y y.later) 1 (staged (gate_in y y.later) body b) c → get_or c (gate_in y y.later) 0 ≢ 1 → Left p y z c
     here_shut c torn shut = kept.not_open (written y) Second p y z b as_it_is sound (Now o) may.op follows (limit_of y.later) (limit_stays y.later (Now o) not_full) apart c torn shut
@@ -118,13 +123,13 @@ module _ (y : Layout) (z : Slots) (b : List ℕ) (o : Op) (lies : LiesAs (writte
     abbrev pub cause : ℕ
     cause = record_length n
 
-    abbrev new : Layout
+    abbrev pub new : Layout
     new = switched_to y cause 0
 
-    abbrev x : Slots
+    abbrev pub x : Slots
     x = slots_after y z y.later
 
-    abbrev b1 : List ℕ
+    abbrev pub b1 : List ℕ
     b1 = switched_bytes 13 y z (segment_for y n) y.later b
 
     pub passes : Passes y (new_segment y cause 0)
@@ -166,7 +171,7 @@ module _ (y : Layout) (z : Slots) (b : List ℕ) (o : Op) (lies : LiesAs (writte
         by None e t = ⊎_elim (λ old. inl (z, old)) (λ done. inr done) (switched.first_torn (written y) 13 y z b lies sound cause passes kind_is not_nine e c t)
         by (Some g) e t = switched.later_torn (written y) 13 y z b lies sound cause passes kind_is not_nine g e c t
 
-    new_sound : IsSound new
+    pub new_sound : IsSound new
     new_sound = sound_laid y o 0 sound (omega arith) may.fits is
 
     new_follows : version_after (written new) (Now o) ≡ Some Second
@@ -187,15 +192,20 @@ module _ (y : Layout) (z : Slots) (b : List ℕ) (o : Op) (lies : LiesAs (writte
     new_version : written (more new new.later (new_segment y cause cause).limit (Now o)) ≡ Second
     new_version = written_more switch_done.lies.first new x new.later switch_done.lies.records b1 (new_segment y cause cause).limit o switch_done.lies.index_is
 
-    kept_there : more new new.later (new_segment y cause cause).limit (Now o) ≡ kept_in y o
+    pub kept_there : more new new.later (new_segment y cause cause).limit (Now o) ≡ kept_in y o
     kept_there = sym (ap (λ t. with_record (cond t (switched_to y (record_length n) (record_length n)) y) o) is ∙ switched_with y o cause)
 
-    gate_is : gate_in new new.later ≡ (segment_for y n).end
+    pub gate_is : gate_in new new.later ≡ (segment_for y n).end
     unfolding switched_to
     gate_is = refl
 
     pub new_staged : (c : List ℕ) → Torn ((segment_for y n).end + 1) (length (behind body)) b1 c → Left p new x c
     new_staged c torn = kept.not_staged (written new) Second p new x b1 switch_done new_sound (Now o) may.op new_follows (new_segment y cause cause).limit (limit_new y (Now o)) new_apart c (subst (λ k. Torn (k + 1) (length (behind body)) b1 c) (sym gate_is) torn)
+
+    pub new_early : read_plain (staged (segment_for y n).end body b1) (kept_in y o).index ≡ q
+    new_early = subst (λ k. read_plain (staged k body b1) (kept_in y o).index ≡ q) gate_is
+        (subst (λ l. read_plain (staged (gate_in new new.later) body b1) l.index ≡ q) kept_there
+        (kept.early_read (written new) Second p new x b1 switch_done new_sound (Now o) may.op new_follows (new_segment y cause cause).limit (limit_new y (Now o)) new_apart))
 
     pub new_shut : (c : List ℕ) → Torn (segment_for y n).end 1 (staged (segment_for y n).end body b1) c → get_or c (segment_for y n).end 0 ≢ 1 → Left p new x c
     new_shut c torn shut = kept.not_open (written new) Second p new x b1 switch_done new_sound (Now o) may.op new_follows (new_segment y cause cause).limit (limit_new y (Now o)) new_apart c
@@ -211,7 +221,7 @@ module _ (y : Layout) (z : Slots) (b : List ℕ) (o : Op) (lies : LiesAs (writte
 
   -- ---- all calls ----
 
-  stands : (s : Plain) (l : Layout) (w : Slots) (c : List ℕ) → IsSound l → Left s l w c → StandsFor s c
+  pub stands : (s : Plain) (l : Layout) (w : Slots) (c : List ℕ) → IsSound l → Left s l w c → StandsFor s c
   stands s l w c is_sound left = record { version = written l; layout = l; slots = w; lies = left.lies; sound = is_sound; plain = sym left.plain }
 
   or_not_by : (t : Bool) → switches y n ≡ t → (c : List ℕ) → IsTornBy 13 y z body b c n t → StandsForEither p q c

@@ -1,7 +1,9 @@
 -- The plan of a record has the row's calls, and fits where the op may be kept.
-use Rattle.std.proofs.Common.{◌≡◌, ◌⊎◌, ⊎_elim, refl, ℕ, ◌+◌, ◌≤◌, List, [], ◌∷◌, ◌++◌, length, Option, None, Some, Bool, true, false, cond, sym, ◌∙◌, ap, subst, arith, length-append, append_assoc}
+use Rattle.std.proofs.Common.{◌≡◌, ◌⊎◌, inl, ⊎_elim, refl, ℕ, ◌+◌, ◌≤◌, List, [], ◌∷◌, ◌++◌, length, Option, None, Some, Bool, true, false, cond, sym, ◌∙◌, ap, subst, arith, length-append, append_assoc}
 use Rattle.std.proofs.lemmas.Bool.{or_parts, ltb-false}
-use Rattle.ld_journal.specs.Format.{append_calls}
+use Rattle.ld_disk.specs.Images.{Torn}
+use Rattle.ld_disk.proofs.Overwrites.{torn_same}
+use Rattle.ld_journal.specs.Format.{behind, append_calls}
 use Rattle.ld_msg.specs.Register.{record_length, journal_limit}
 use Rattle.ld_op.specs.declared.op.Op.{Op}
 use Rattle.ld_op.specs.declared.record.Record.{Record}
@@ -14,7 +16,7 @@ use Rattle.ld_layout.specs.Layout.{Layout, Segment, switches, switch_calls, is_f
 use Rattle.ld_segment.specs.Left.{IsRecordTorn}
 use Rattle.ld_segment.specs.Slots.{says_bytes, slot_length}
 use Rattle.ld_segment.specs.Lies.{Slots, ArePlacedAt, IsIndexed, LiesAs, IsSound, MayKeep, IfBounded, written, segment_for, base_record, first_slots, switch_row, switched_bytes, with_body, IsAnySwitchTorn, calls_by, row_of, gate_in, IsTornBy, IsRowTorn, made_by, row_made, switching}
-use Rattle.ld_segment.specs.Plans.{planned_calls, planned_count, planned_end, planned_made, IsPlanTorn, IsTornBefore, made_before, before_by, calls_before, end_before, count_before, planned_by, planned}
+use Rattle.ld_segment.specs.Plans.{planned_calls, planned_count, planned_end, planned_made, IsPlanTorn, IsBeforeTorn, made_before, before_by, calls_before, end_before, count_before, planned_by, planned}
 use Rattle.ld_segment.proofs.Bodies.{record_long}
 use Rattle.ld_segment.proofs.CurrentSlots.{says_long}
 use Rattle.ld_segment.proofs.NewSegments.{base_record_long}
@@ -35,10 +37,10 @@ module _ (kind : ℕ) (y : Layout) (z : Slots) (body : List ℕ) (n : ℕ) where
       by (Some s) = refl
 
   torn_is : (b c : List ℕ) (t : Bool) → IsPlanTorn (planned_by kind y z body n t) b c → IsTornBy kind y z body b c n t
-  torn_is b c false torn = torn
+  torn_is b c false torn = ⊎_elim (λ same. inl (subst (λ l. Torn (gate_in y y.later + 1) (length (behind body)) b l) (sym same) (torn_same (gate_in y y.later + 1) (length (behind body)) b))) (λ record_torn. record_torn) torn
   torn_is b c true torn = by y.later torn
     where
-      by : (a : Option Segment) → IsTornBefore (before_by kind y z g a) g.end body b c → IsAnySwitchTorn kind y z g a b c ⊎ IsRecordTorn g.end body (switched_bytes kind y z g a b) c
+      by : (a : Option Segment) → IsBeforeTorn (before_by kind y z g a) b c ⊎ IsRecordTorn g.end body (made_before (before_by kind y z g a) b) c → IsAnySwitchTorn kind y z g a b c ⊎ IsRecordTorn g.end body (switched_bytes kind y z g a b) c
       by None torn = torn
       by (Some s) torn = torn
 

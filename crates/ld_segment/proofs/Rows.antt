@@ -1,6 +1,7 @@
 -- Rows of records at offsets of a disk: what writes elsewhere leave of them, and what a record more does.
 use Rattle.std.proofs.Common.{◌≡◌, ◌≢◌, ◌⊎◌, min, inl, inr, ⊎_elim, ℕ, ◌+◌, ◌≤◌, ◌<◌, ◌^◌, List, [], ◌∷◌, ◌++◌, length, get_or, take, drop, sym, ◌∙◌, ap, subst, arith, length-append, append_assoc, take-append-drop}
-use Rattle.std.proofs.lemmas.List.{take_at, drop_at, length-take-le}
+use Rattle.std.proofs.lemmas.List.{take_at, drop_at, length-take-le, drop-drop}
+use Rattle.std.specs.Int.{w32, to_be_bytes}
 use Rattle.ld_disk.specs.Images.{overwrite, Torn}
 use Rattle.ld_disk.proofs.Writes.{overwrite_at, torn_byte}
 use Rattle.ld_journal.specs.Format.{records, IsJournal, IsWithOrWithout, behind}
@@ -33,6 +34,19 @@ row_stays from to at bodies old new stays apart journal =
 pub length-behind : (body : List ℕ) → length (behind body) ≡ 5 + length body
 length-behind body = omega (arith, length-append body (0 ∷ []))
 
+-- the body stands behind its gate as soon as that is written
+pub body_behind : (gate : ℕ) (body old : List ℕ) → (rest : List ℕ) × (drop (gate + 5) (staged gate body old) ≡ body ++ rest)
+body_behind gate body old =
+    let now = staged gate body old in
+    let back = drop (length (behind body)) (drop (gate + 1) now) in
+    let split : drop (gate + 1) now ≡ behind body ++ back = sym (take-append-drop (length (behind body)) (drop (gate + 1) now)) ∙ ap (λ (l : List ℕ). l ++ back) (stands_written (gate + 1) (behind body) old) in
+    let step : gate + 1 + 4 ≡ gate + 5 = omega arith in (
+      0 ∷ back,
+      ap (λ (k : ℕ). drop k now) (sym step)
+          ∙ sym (drop-drop 4 (gate + 1) now)
+          ∙ ap (λ (l : List ℕ). drop 4 l) (split ∙ append_assoc (to_be_bytes w32 (length body) ++ body) (0 ∷ []) back),
+    )
+
 module _ (at : ℕ) (bodies : List (List ℕ)) (body old : List ℕ) (inside : at ≤ length old) (short : length body < 2 ^ 32) (journal : IsJournal bodies (drop at old)) where
   abbrev gate_at : ℕ
   gate_at = at + length (records bodies)
@@ -40,16 +54,16 @@ module _ (at : ℕ) (bodies : List (List ℕ)) (body old : List ℕ) (inside : a
   abbrev front : List ℕ
   front = take at old ++ records bodies
 
-  front_long : gate_at ≡ length front
+  pub front_long : gate_at ≡ length front
   front_long = omega (arith, length-append (take at old) (records bodies), length-take-le at old inside)
 
-  old_is : old ≡ front ++ journal.gate ∷ journal.after
+  pub old_is : old ≡ front ++ journal.gate ∷ journal.after
   old_is = sym (take-append-drop at old) ∙ ap (λ (l : List ℕ). take at old ++ l) journal.bytes_are ∙ sym (append_assoc (take at old) (records bodies) (journal.gate ∷ journal.after))
 
   old_long : gate_at + 1 ≤ length old
   old_long = omega (arith, ap length old_is, length-append front (journal.gate ∷ journal.after), front_long)
 
-  behind_front : (c : List ℕ) (gate : ℕ) (rest : List ℕ) → c ≡ front ++ gate ∷ rest → drop at c ≡ records bodies ++ gate ∷ rest
+  pub behind_front : (c : List ℕ) (gate : ℕ) (rest : List ℕ) → c ≡ front ++ gate ∷ rest → drop at c ≡ records bodies ++ gate ∷ rest
   behind_front c gate rest is =
       ap (λ (l : List ℕ). drop at l) (is ∙ append_assoc (take at old) (records bodies) (gate ∷ rest)) ∙ drop_at (take at old) (records bodies ++ gate ∷ rest) at (length-take-le at old inside)
 

@@ -7,3 +7,4 @@ pub mod Lies
 pub mod Plans
 pub mod Found
 pub mod Later
+pub mod Groups

@@ -80,13 +80,13 @@ made_before (Later w) bytes = switched w bytes
 abbrev pub planned_made : Planned → List ℕ → List ℕ
 planned_made p bytes = with_body p.gate p.body (made_before p.before bytes)
 
-abbrev pub IsTornBefore : Before → ℕ → List ℕ → List ℕ → List ℕ → Type 0
-IsTornBefore Stays gate body old new = IsRecordTorn gate body old new
-IsTornBefore (First w) gate body old new = IsFirstSwitchTorn w old new ⊎ IsRecordTorn gate body (made_before (First w) old) new
-IsTornBefore (Later w) gate body old new = IsSwitchTorn w old new ⊎ IsRecordTorn gate body (made_before (Later w) old) new
+abbrev pub IsBeforeTorn : Before → List ℕ → List ℕ → Type 0
+IsBeforeTorn Stays old new = new ≡ old
+IsBeforeTorn (First w) old new = IsFirstSwitchTorn w old new
+IsBeforeTorn (Later w) old new = IsSwitchTorn w old new
 
 abbrev pub IsPlanTorn : Planned → List ℕ → List ℕ → Type 0
-IsPlanTorn p old new = IsTornBefore p.before p.gate p.body old new
+IsPlanTorn p old new = IsBeforeTorn p.before old new ⊎ IsRecordTorn p.gate p.body (made_before p.before old) new
 
 -- ---- the plan of a record ----
 

@@ -4,6 +4,7 @@
 mod body;
 mod find;
 mod found;
+mod group;
 mod later;
 mod law;
 mod lies;
@@ -18,10 +19,11 @@ mod write;
 
 pub use find::read_current;
 pub use found::Found;
+pub use group::{open_group, stage_next, stage_op};
 pub use later::{Later, read_later, segments_are_read};
 pub use law::{
-    heads_are_there_or_not, records_are_there_or_not, segments_stay, slots_are_read,
-    slots_tell_the_segment,
+    groups_are_there_or_not, groups_grow, heads_are_there_or_not, records_are_there_or_not,
+    segments_stay, slots_are_read, slots_tell_the_segment,
 };
 pub use lies::{
     bytes_lie_in_one_way, bytes_stand_for_one_state, journals_stand_as_before,

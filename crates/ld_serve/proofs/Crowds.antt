@@ -1,29 +1,27 @@
 -- A node that serves a crowd, call by call.
 use Rattle.std.proofs.Common.{◌≡◌, ◌≤◌, ◌<◌, ◌+◌, ◌-◌, ◌^◌, ◌⊎◌, ℕ, List, [], ◌∷◌, ◌++◌, length, refl, sym, ap, ◌∙◌, subst, arith, inl, inr, append-nil, length-append}
-use Rattle.std.specs.Prelude.{Bool, true, false, Option, None, Some, MatchResult, IfOk, IfErr}
+use Rattle.std.specs.Prelude.{true, Option, None, Some, MatchResult, IfOk, IfErr}
 use Rattle.std.specs.declared.result.Result.{Result}
 use Rattle.std.specs.declared.result.Result.TheVariants.{Ok, Err}
-use mir.Val.{bool_byte}
 use Rattle.ld_past.specs.Events.{Event}
 use Rattle.ld_msg.specs.declared.msg.Msg.{Msg}
-use Rattle.ld_msg.specs.Bounds.{IsMessage}
 use Rattle.ld_wire.specs.Frames.{frame_of}
 use Rattle.ld_wire.specs.Streams.{frames_of, AreMessages}
 use Rattle.ld_wire.specs.declared.fault.WireFault.{WireFault}
 use Rattle.ld_wire.specs.Judging.{judge}
 use Rattle.ld_wire.specs.Faults.{IsRefused}
-use Rattle.ld_crowd.specs.Calls.{said, dismissed, is_over, count_of}
+use Rattle.ld_crowd.specs.Calls.{dismissed, is_over, count_of}
 use Rattle.ld_crowd.specs.Course.{Taken, messages_of, frames, of}
-use Rattle.ld_crowd.specs.Serving.{GoesOn, put, plain, turns_of, AreTurns, AreSteps}
-use Rattle.ld_crowd.proofs.Steps.{alike, take_all_of, none_yet, put_same, steps_more, steps_after, frames_plain, talk_of}
+use Rattle.ld_crowd.specs.Serving.{put, plain, turns_of, AreTurns, AreSteps}
+use Rattle.ld_crowd.proofs.Steps.{alike, none_yet, steps_after, frames_plain, talk_of}
 use Rattle.ld_serve.proofs.Looks.{Held, served_so, put_off}
 use Rattle.ld_store.specs.Ops.{StandsFor}
 use Rattle.ld_node.specs.Known.{Known}
 use Rattle.ld_serve.specs.declared.stop.Stop.{Stop}
 use Rattle.ld_serve.specs.declared.stop.Stop.TheVariants.{NoMemory}
 use Rattle.ld_serve.specs.Serving.{State, after, answers}
-use Rattle.ld_serve.specs.Talking.{Given, AreGiven, IsServing, AreServed, IsLess, BeginsNone, IsBetweenStop, turns_in, turns_by}
-use Rattle.ld_serve.specs.Crowd.{Advances, Halts, Handles, IsUnhandled, IsNextOf, Break, Between, At, IsNext, IsNextTaken, IsBreak, IsHeardAll, IsHeardUntil, IsPeer, IsServedAll, IsServedUntil}
+use Rattle.ld_serve.specs.Talking.{Given, AreGiven, IsServing, AreServed, IsLess, BeginsNone, IsBetweenStop, turns_by}
+use Rattle.ld_serve.specs.Crowd.{Advances, Halts, Break, Between, At, Among, IsNext, IsNextTaken, IsBreak, IsHeardAll, IsHeardUntil, IsPeer, IsServedAll, IsServedUntil}
 
 -- ---- one call ----
 
@@ -53,15 +51,10 @@ module _ (f : State → Msg → State) (g : State → Msg → List Msg) (Is : Ty
     steps = a.steps;
   }
 
-  pub advances_from : (did new : List Event) (old now then : Held) (s next : State) (r : Result Bool Stop) → ((q : ℕ) → old q ≡ now q)
-      → IfOk r (λ b. Advances f g Is did new now then s next (turns_in b)) → IfOk r (λ b. Advances f g Is did new old then s next (turns_in b))
-  advances_from did new old now then s next (Ok b) same a = advances_as did new old now then s next (turns_in b) same a
+  pub advances_from : (did new : List Event) (old now then : Held) (s next : State) (r : Result ℕ Stop) → ((q : ℕ) → old q ≡ now q)
+      → IfOk r (λ b. Advances f g Is did new now then s next b) → IfOk r (λ b. Advances f g Is did new old then s next b)
+  advances_from did new old now then s next (Ok b) same a = advances_as did new old now then s next b same a
   advances_from did new old now then s next (Err stop) same a = tt
-
-  -- the turns are counted by a number
-  pub advances_by : (did new : List Event) (now then : Held) (s next : State) (b : Bool) (n : ℕ) → n ≡ bool_byte b → Advances f g Is did new now then s next (turns_in b) → Advances f g Is did new now then s next n
-  advances_by did new now then s next true n e a = subst (λ (k : ℕ). Advances f g Is did new now then s next k) (sym e) a
-  advances_by did new now then s next false n e a = subst (λ (k : ℕ). Advances f g Is did new now then s next k) (sym e) a
 
   -- after a look in which no turn was taken
   pub advances_after : (did mid new : List Event) (now held then : Held) (s next : State) (k : ℕ) → ((ts : List (Taken Given)) → IsServing did ts now → IsServing mid ts held)
@@ -74,50 +67,36 @@ module _ (f : State → Msg → State) (g : State → Msg → List Msg) (Is : Ty
     steps = a.steps;
   }
 
-  -- a frame was taken, and its answers were said
-  pub frame_taken : (did new : List Event) (p : ℕ) (m : Msg) (rest : List ℕ) (now then : Held) (s next : State) → IsMessage m → Handles f g Is did new p m s next
-      → ((q : ℕ) → then q ≡ put p (Some rest) now q) → Advances f g Is did new (put p (Some (frame_of m ++ rest)) now) then s next 1
-  frame_taken did new p m rest now then s next is h kept = record {
-    more = (p, (m, h.given)) ∷ [];
-    are = ((is, h.are), tt);
-    serving = λ ts x. subst (λ (d : List Event). IsServing d (ts ++ (p, (m, h.given)) ∷ []) then) (sym h.said_is)
-        (alike frame_of frames_of IsLess BeginsNone (said p (frames_of h.given) ∷ did) (ts ++ (p, (m, h.given)) ∷ []) (put p (Some rest) now) then kept
-        (take_all_of frame_of frames_of IsLess BeginsNone did ts p m h.given rest now x));
-    turns_are = λ ts. subst (λ (d : List Event). turns_of d (ts ++ (p, (m, h.given)) ∷ []) ≡ turns_of did ts + 1) (sym h.said_is)
-        (let l = length-append ts ((p, (m, h.given)) ∷ []) in omega (arith, l));
-    steps = λ held first ts x. subst (λ (t : State). AreSteps f g first (ts ++ (p, (m, h.given)) ∷ []) t) (sym (h.step held).1) (steps_more f g first ts s p m h.given x (h.step held).0);
-  }
-
   -- a read, in which none was
-  pub heard_on : (did new : List Event) (now then : Held) (s : State) (r : Result Bool Stop)
+  pub heard_on : (did new : List Event) (now then : Held) (s : State) (r : Result ℕ Stop)
       → ((ts : List (Taken Given)) → IsServing did ts now → MatchResult r (λ _. IsServing new ts then) (λ _. AreServed new ts))
-      → ((ts : List (Taken Given)) → turns_of new ts ≡ turns_of did ts + turns_by r) → IfOk r (λ b. Advances f g Is did new now then s s (turns_in b))
-  heard_on did new now then s (Ok b) serving turns = none_taken did new now then s (turns_in b) serving turns
+      → ((ts : List (Taken Given)) → turns_of new ts ≡ turns_of did ts + turns_by r) → IfOk r (λ b. Advances f g Is did new now then s s b)
+  heard_on did new now then s (Ok b) serving turns = none_taken did new now then s b serving turns
   heard_on did new now then s (Err stop) serving turns = tt
 
   -- a peer was dismissed
-  pub refused_on : (did new : List Event) (p : ℕ) (h : List ℕ) (now : Held) (s : State) (fault : WireFault) (r : Result Bool Stop) → now p ≡ None → IsRefused (judge h) fault
-      → IfOk r (λ b. (b ≡ true) × (new ≡ dismissed p ∷ did) × ((bytes : List ℕ) → IsRefused (judge bytes) fault → BeginsNone bytes))
-      → IfOk r (λ b. Advances f g Is did new (put p (Some h) now) now s s (turns_in b))
+  pub refused_on : (did new : List Event) (p : ℕ) (h : List ℕ) (now : Held) (s : State) (fault : WireFault) (r : Result ℕ Stop) → now p ≡ None → IsRefused (judge h) fault
+      → IfOk r (λ b. (b ≡ 1) × (new ≡ dismissed p ∷ did) × ((bytes : List ℕ) → IsRefused (judge bytes) fault → BeginsNone bytes))
+      → IfOk r (λ b. Advances f g Is did new (put p (Some h) now) now s s b)
   refused_on did new p h now s fault (Ok b) gone is off =
-      subst (λ (b : Bool). Advances f g Is did new (put p (Some h) now) now s s (turns_in b)) (sym off.0)
+      subst (λ (b : ℕ). Advances f g Is did new (put p (Some h) now) now s s b) (sym off.0)
       (subst (λ (d : List Event). Advances f g Is did d (put p (Some h) now) now s s 1) (sym off.1)
       (none_taken did (dismissed p ∷ did) (put p (Some h) now) now s 1 (λ ts x. put_off did ts p h now (off.2 h is) gone x) (λ ts. omega arith)))
   refused_on did new p h now s fault (Err stop) gone is off = tt
 
   -- what is held of the first one in the line is where it was
-  pub aside_on : (did : List Event) (old mid then : Held) (p : ℕ) (h : List ℕ) (s : State) (r : Result Bool Stop) → ((q : ℕ) → old q ≡ put p (Some h) mid q)
-      → IfOk r (λ b. (b ≡ false) × ((q : ℕ) → then q ≡ put p (Some h) mid q)) → IfOk r (λ b. Advances f g Is did did old then s s (turns_in b))
+  pub aside_on : (did : List Event) (old mid then : Held) (p : ℕ) (h : List ℕ) (s : State) (r : Result ℕ Stop) → ((q : ℕ) → old q ≡ put p (Some h) mid q)
+      → IfOk r (λ b. (b ≡ 0) × ((q : ℕ) → then q ≡ put p (Some h) mid q)) → IfOk r (λ b. Advances f g Is did did old then s s b)
   aside_on did old mid then p h s (Ok b) was kept =
-      subst (λ (b : Bool). Advances f g Is did did old then s s (turns_in b)) (sym kept.0)
+      subst (λ (b : ℕ). Advances f g Is did did old then s s b) (sym kept.0)
       (none_taken did did old then s 0 (λ ts x. alike frame_of frames_of IsLess BeginsNone did ts old then (λ q. kept.1 q ∙ sym (was q)) x) (λ ts. omega arith))
   aside_on did old mid then p h s (Err stop) was kept = tt
 
 -- ---- a call that stops ----
 
-module _ (id : ℕ) (known : Known) (Is : Type 0) (left : List ℕ → Type 0) (stop : Stop) where
+module _ (id : ℕ) (known : Known) (Is : Type 0) (left : List ℕ → Type 0) (most : ℕ) (stop : Stop) where
   abbrev Stops : List Event → List Event → Held → State → State → Type 0
-  Stops did new now s next = Halts id known Is left did new now s next 1 stop
+  Stops did new now s next = Halts id known Is left did new now s next most stop
 
   pub halts_as : (did new : List Event) (old now : Held) (s next : State) → ((q : ℕ) → old q ≡ now q) → Stops did new now s next → Stops did new old s next
   halts_as did new old now s next same a = record {
@@ -149,71 +128,40 @@ module _ (id : ℕ) (known : Known) (Is : Type 0) (left : List ℕ → Type 0) (
     more = [];
     are = tt;
     served = λ ts x. subst (λ (l : List (Taken Given)). AreServed new l) (sym (append-nil ts)) (served ts x);
-    most = λ ts. subst (λ (l : List (Taken Given)). turns_of new l ≤ turns_of did ts + 1) (sym (append-nil ts)) (let t = turns ts in omega (arith, t));
+    most = λ ts. subst (λ (l : List (Taken Given)). turns_of new l ≤ turns_of did ts + most) (sym (append-nil ts)) (let t = turns ts in omega (arith, t));
     break = Between;
     at_is = λ ts x. tt;
     cut = λ held. (s, (λ first ts x. subst (λ (l : List (Taken Given)). AreSteps (after id known) (answers id known) first l s) (sym (append-nil ts)) x), (cause, refl, stands held));
   }
 
-  -- behind a frame that was taken and answered
-  pub behind : (did new : List Event) (now then : Held) (s next : State) → Advances (after id known) (answers id known) Is did new now then s next 1 → IsBetweenStop stop
-      → (Is → (bytes : List ℕ) → left bytes → StandsFor next.plain bytes) → Stops did new now s next
-  behind did new now then s next a cause stands = record {
-    more = a.more;
-    are = a.are;
-    served = λ ts x. served_so new (ts ++ a.more) then (a.serving ts x);
-    most = λ ts. (let t = a.turns_are ts in omega (arith, t));
-    break = Between;
-    at_is = λ ts x. tt;
-    cut = λ held. (next, a.steps held, (cause, refl, stands held));
-  }
-
-  -- at a frame that was taken and not answered
-  pub at_frame : (did new : List Event) (p : ℕ) (m : Msg) (rest : List ℕ) (now : Held) (s next : State) → new ≡ did → IsUnhandled id known Is left s next m stop
-      → Stops did new (put p (Some (frame_of m ++ rest)) now) s next
-  at_frame did new p m rest now s next same u = record {
-    more = [];
-    are = tt;
-    served = λ ts x. subst (λ (l : List (Taken Given)). AreServed new l) (sym (append-nil ts)) (subst (λ (d : List Event). AreServed d ts) (sym same) (served_so did ts (put p (Some (frame_of m ++ rest)) now) x));
-    most = λ ts. subst (λ (l : List (Taken Given)). turns_of new l ≤ turns_of did ts + 1) (sym (append-nil ts)) (subst (λ (d : List Event). turns_of d ts ≤ turns_of did ts + 1) (sym same) (omega arith));
-    break = At p m;
-    at_is = λ ts x. subst (λ (l : List (Taken Given)). IsNextOf new l p m) (sym (append-nil ts)) (subst (λ (d : List Event). IsNextOf d ts p m) (sym same) (next_of ts x));
-    cut = λ held. (s, (λ first ts x. subst (λ (l : List (Taken Given)). AreSteps (after id known) (answers id known) first l s) (sym (append-nil ts)) x), u.cut held);
-  }
-    where
-      next_of : (ts : List (Taken Given)) → IsServing did ts (put p (Some (frame_of m ++ rest)) now) → IsNextOf did ts p m
-      next_of ts x =
-          let y = subst (λ (o : Option (List ℕ)). GoesOn frame_of frames_of IsLess BeginsNone did ts p o) (put_same p (Some (frame_of m ++ rest)) now) (x p) in
-          record { rest = rest; got_is = y.stands.passes.got_is ∙ ap (λ (k : List ℕ). frames (λ (e : Given). frame_of e.0) (of p ts) ++ k) (sym y.here.0) }
-
-module _ (id : ℕ) (known : Known) (Is : Type 0) (left : List ℕ → Type 0) where
-  pub halts_from : (did new : List Event) (old now : Held) (s next : State) (r : Result Bool Stop) → ((q : ℕ) → old q ≡ now q) → IfErr r (Halts id known Is left did new now s next 1)
-      → IfErr r (Halts id known Is left did new old s next 1)
+module _ (id : ℕ) (known : Known) (Is : Type 0) (left : List ℕ → Type 0) (most : ℕ) where
+  pub halts_from : (did new : List Event) (old now : Held) (s next : State) (r : Result ℕ Stop) → ((q : ℕ) → old q ≡ now q) → IfErr r (Halts id known Is left did new now s next most)
+      → IfErr r (Halts id known Is left did new old s next most)
   halts_from did new old now s next (Ok b) same h = tt
-  halts_from did new old now s next (Err stop) same h = halts_as id known Is left stop did new old now s next same h
+  halts_from did new old now s next (Err stop) same h = halts_as id known Is left most stop did new old now s next same h
 
   -- without memory, or as a call of the crowd failed
-  pub heard_off : (did new : List Event) (now : Held) (s : State) (r : Result Bool Stop) (P : List (Taken Given) → Type 0)
+  pub heard_off : (did new : List Event) (now : Held) (s : State) (r : Result ℕ Stop) (P : List (Taken Given) → Type 0)
       → ((ts : List (Taken Given)) → IsServing did ts now → MatchResult r (λ _. P ts) (λ _. AreServed new ts))
       → ((ts : List (Taken Given)) → turns_of new ts ≡ turns_of did ts + turns_by r) → IfErr r IsBetweenStop → (Is → (bytes : List ℕ) → left bytes → StandsFor s.plain bytes)
-      → IfErr r (Halts id known Is left did new now s s 1)
+      → IfErr r (Halts id known Is left did new now s s most)
   heard_off did new now s (Ok b) P serving turns cause stands = tt
-  heard_off did new now s (Err stop) P serving turns cause stands = between id known Is left stop did new now s cause serving turns stands
+  heard_off did new now s (Err stop) P serving turns cause stands = between id known Is left most stop did new now s cause serving turns stands
 
   pub no_memory : (did new : List Event) (now : Held) (s : State) (stop : Stop) → stop ≡ NoMemory → new ≡ did → (Is → (bytes : List ℕ) → left bytes → StandsFor s.plain bytes)
-      → Halts id known Is left did new now s s 1 stop
+      → Halts id known Is left did new now s s most stop
   no_memory did new now s stop is same stands =
-      subst (λ (w : Stop). Halts id known Is left did new now s s 1 w) (sym is)
-      (subst (λ (d : List Event). Halts id known Is left did d now s s 1 NoMemory) (sym same)
-      (between id known Is left NoMemory did did now s tt (λ ts x. served_so did ts now x) (λ ts. omega arith) stands))
+      subst (λ (w : Stop). Halts id known Is left did new now s s most w) (sym is)
+      (subst (λ (d : List Event). Halts id known Is left did d now s s most NoMemory) (sym same)
+      (between id known Is left most NoMemory did did now s tt (λ ts x. served_so did ts now x) (λ ts. omega arith) stands))
 
-  pub refused_off : (did new : List Event) (now : Held) (s : State) (r : Result Bool Stop) → IfErr r (λ stop. (stop ≡ NoMemory) × (new ≡ did)) → (Is → (bytes : List ℕ) → left bytes → StandsFor s.plain bytes)
-      → IfErr r (Halts id known Is left did new now s s 1)
+  pub refused_off : (did new : List Event) (now : Held) (s : State) (r : Result ℕ Stop) → IfErr r (λ stop. (stop ≡ NoMemory) × (new ≡ did)) → (Is → (bytes : List ℕ) → left bytes → StandsFor s.plain bytes)
+      → IfErr r (Halts id known Is left did new now s s most)
   refused_off did new now s (Ok b) cause stands = tt
   refused_off did new now s (Err stop) cause stands = no_memory did new now s stop cause.0 cause.1 stands
 
-  pub aside_off : (did : List Event) (now : Held) (s : State) (r : Result Bool Stop) → IfErr r (λ stop. stop ≡ NoMemory) → (Is → (bytes : List ℕ) → left bytes → StandsFor s.plain bytes)
-      → IfErr r (Halts id known Is left did did now s s 1)
+  pub aside_off : (did : List Event) (now : Held) (s : State) (r : Result ℕ Stop) → IfErr r (λ stop. stop ≡ NoMemory) → (Is → (bytes : List ℕ) → left bytes → StandsFor s.plain bytes)
+      → IfErr r (Halts id known Is left did did now s s most)
   aside_off did now s (Ok b) cause stands = tt
   aside_off did now s (Err stop) cause stands = no_memory did did now s stop cause refl stands
 
@@ -324,9 +272,9 @@ module _ (f : State → Msg → State) (g : State → Msg → List Msg) where
 -- ---- where it stopped ----
 
 module _ (id : ℕ) (known : Known) (Is : Type 0) (left : List ℕ → Type 0) (stop : Stop) where
-  pub heard_until : (did new : List Event) (now : Held) (first s next : State) (count turns : ℕ) → SoFar (after id known) (answers id known) Is did now first s count → count < turns
-      → Halts id known Is left did new now s next 1 stop → IsHeardUntil new turns
-  heard_until did new now first s next count turns so few h = record {
+  pub heard_until : (did new : List Event) (now : Held) (first s next : State) (count most turns : ℕ) → SoFar (after id known) (answers id known) Is did now first s count → count + most ≤ turns
+      → Halts id known Is left did new now s next most stop → IsHeardUntil new turns
+  heard_until did new now first s next count most turns so few h = record {
     taken = so.taken ++ h.more;
     are = are_append so.taken h.more so.are h.are;
     peers = h.served so.taken so.serving;
@@ -335,11 +283,13 @@ module _ (id : ℕ) (known : Known) (Is : Type 0) (left : List ℕ → Type 0) (
 
   next_plain : (did : List Event) (ts : List (Taken Given)) (b : Break) → IsNext did ts b → IsNextTaken id known left stop did (plain ts) b
   next_plain did ts Between x = tt
+  next_plain did ts (Among group) x =
+      λ p. ((x p).rest, (x p).got_is ∙ ap (λ (l : List ℕ). l ++ (frames frame_of (of p group) ++ (x p).rest)) (frames_plain (after id known) (answers id known) frame_of frames_of p ts))
   next_plain did ts (At p m) x = (x.rest, x.got_is ∙ ap (λ (l : List ℕ). l ++ (frame_of m ++ x.rest)) (frames_plain (after id known) (answers id known) frame_of frames_of p ts))
 
-  pub served_until : (did new : List Event) (now : Held) (first s next : State) (count turns : ℕ) → SoFar (after id known) (answers id known) Is did now first s count → count < turns
-      → Halts id known Is left did new now s next 1 stop → Is → IsServedUntil id known left stop new first next turns
-  served_until did new now first s next count turns so few h held =
+  pub served_until : (did new : List Event) (now : Held) (first s next : State) (count most turns : ℕ) → SoFar (after id known) (answers id known) Is did now first s count → count + most ≤ turns
+      → Halts id known Is left did new now s next most stop → Is → IsServedUntil id known left stop new first next turns
+  served_until did new now first s next count most turns so few h held =
       let ts : List (Taken Given) = so.taken ++ h.more in
       let c = h.cut held in
       let steps = c.1 first so.taken (so.steps held) in

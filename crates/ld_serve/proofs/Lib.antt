@@ -8,5 +8,7 @@ pub mod Wholes
 pub mod Completing
 pub mod Looks
 pub mod Crowds
+pub mod Groups
+pub mod Settling
 pub mod CrowdStops
 pub mod Gatherings

@@ -1,12 +1,12 @@
 -- A look at a crowd, and a read of one of its peers: how serving goes on.
-use Rattle.std.proofs.Common.{◌≡◌, ℕ, List, ◌∷◌, ◌++◌, refl, Option, None, Some}
+use Rattle.std.proofs.Common.{◌≡◌, ℕ, List, [], ◌∷◌, ◌++◌, refl, Option, None, Some}
 use Rattle.ld_past.specs.Events.{Event}
 use Rattle.ld_wire.specs.Frames.{frame_of}
 use Rattle.ld_wire.specs.Streams.{frames_of}
-use Rattle.ld_crowd.specs.Calls.{came, turned, read, dismissed}
+use Rattle.ld_crowd.specs.Calls.{came, turned, read, dismissed, arrivals}
 use Rattle.ld_crowd.specs.Course.{Taken}
 use Rattle.ld_crowd.specs.Serving.{put}
-use Rattle.ld_crowd.proofs.Steps.{alike, feed_all, dismiss_all, all_with, turned_on, came_on, put_none}
+use Rattle.ld_crowd.proofs.Steps.{alike, begin_all, feed_all, dismiss_all, all_with, turned_on, came_on, put_none}
 use Rattle.ld_serve.specs.Talking.{Given, IsServing, AreServed, IsLess, BeginsNone}
 
 abbrev pub Held : Type 0
@@ -22,6 +22,10 @@ look_of did ts p now new kept x = alike frame_of frames_of IsLess BeginsNone (tu
 
 pub look_of_full : (did : List Event) (ts : List (Taken Given)) (p : ℕ) (now : Held) → IsServing did ts now → AreServed (turned p ∷ did) ts
 look_of_full did ts p now x = all_with frame_of frames_of IsLess BeginsNone (turned p ∷ did) ts now (look_of did ts p now now (λ _. refl) x)
+
+pub look_came : (did : List Event) (ts : List (Taken Given)) (p : ℕ) (now new : Held) → p ≡ arrivals did → ((q : ℕ) → new q ≡ put p (Some []) now q) → IsServing did ts now → IsServing (came ∷ did) ts new
+look_came did ts p now new next kept x =
+    alike frame_of frames_of IsLess BeginsNone (came ∷ did) ts (put p (Some []) now) new kept (begin_all frame_of frames_of IsLess BeginsNone did ts p now next x)
 
 pub served_so : (did : List Event) (ts : List (Taken Given)) (now : Held) → IsServing did ts now → AreServed did ts
 served_so did ts now x = all_with frame_of frames_of IsLess BeginsNone did ts now x

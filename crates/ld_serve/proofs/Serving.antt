@@ -5,6 +5,7 @@ use Rattle.ld_disk.specs.declared.disk.Disk.{Ghosts}
 use Rattle.ld_op.specs.declared.op.Op.{Op}
 use Rattle.ld_op.specs.Plain.{Plain}
 use Rattle.ld_op.specs.Cells.{read_plain}
+use Rattle.ld_layout.specs.Layout.{Layout}
 use Rattle.ld_segment.specs.Lies.{LiesAs, written}
 use Rattle.ld_store.specs.Ops.{StandsFor}
 use Rattle.ld_store.specs.Open.{told_plain}
@@ -39,6 +40,17 @@ module _ {D : Type 0} {g : Ghosts D} (seen : D → Option (List ℕ)) (may_leave
     lies = λ c left. subst (λ b. LiesAs (written (layout_of new)) (layout_of new) (slots_of new) b) (sym (still.rests.stable c left)) still.lies;
     plain = λ c left. ap (λ s. s.plain) same ∙ still.plain ∙ ap (λ b. read_plain b (index_of new)) (sym (still.rests.stable c left));
     past = subst (λ y. IsPast y op) (sym layout) past;
+  }
+
+  -- one that would, of a node that holds
+  pub past_there : (node : Node D g) (p : Plain) (y : Layout) (op : Option Op) → p ≡ plain_of node → y ≡ layout_of node → Holds seen may_leave node → IsPast y op → PastLimit (may_leave (disk_of node)) p op
+  past_there node p y op same layout holds past = record {
+    layout = layout_of node;
+    slots = slots_of node;
+    sound = holds.sound;
+    lies = λ c left. subst (λ b. LiesAs (written (layout_of node)) (layout_of node) (slots_of node) b) (sym (holds.rests.stable c left)) holds.lies;
+    plain = λ c left. same ∙ holds.plain ∙ ap (λ b. read_plain b (index_of node)) (sym (holds.rests.stable c left));
+    past = subst (λ (z : Layout). IsPast z op) layout past;
   }
 
 module _ {D : Type 0} (may_leave : D → List ℕ → Type 0) (moment : D → ℕ) (left_since : D → ℕ → List ℕ → Type 0) where

@@ -4,9 +4,10 @@ use Rattle.ld_msg.specs.declared.msg.Msg.{Msg}
 use Rattle.ld_past.specs.Events.{Event}
 use Rattle.ld_wire.specs.Frames.{frame_of}
 use Rattle.ld_wire.specs.Streams.{frames_of, AreMessages}
-use Rattle.ld_crowd.specs.Calls.{said, read_of, said_to, is_ended, is_finished, is_dismissed}
+use Rattle.ld_crowd.specs.Calls.{read_of, said_to, is_ended, is_finished, is_dismissed}
 use Rattle.ld_crowd.specs.Course.{Taken, of, frames, after_taken, messages_of, IsTalk}
 use Rattle.ld_crowd.specs.Serving.{AreTurns, AreSteps, turns_of}
+use Rattle.ld_op.specs.Plain.{Plain}
 use Rattle.ld_store.specs.Ops.{StandsFor, StandsForEither}
 use Rattle.ld_node.specs.Known.{Known}
 use Rattle.ld_serve.specs.declared.stop.Stop.{Stop}
@@ -25,12 +26,12 @@ IsCrowdStop Held (Full journals.Store) = Unit {0}
 IsCrowdStop Held (Damaged journals.Store place) = Held → ⊥
 IsCrowdStop Held _ = ⊥
 
--- a message of this peer that was handled, and its answers were said
-pub record Handles (after : State → Msg → State) (answers : State → Msg → List Msg) (Held : Type 0) (did new : List Event) (peer : ℕ) (m : Msg) (s next : State) : Type 0 where
-  pub given : List Msg
-  pub are : AreMessages given
-  pub said_is : new ≡ said peer (frames_of given) ∷ did
-  pub step : Held → (given ≡ answers s m) × (next ≡ after s m)
+-- this is so of the plain state before these frames, behind some of them, or behind all
+pub record IsBehindSome (after : State → Msg → State) (s : State) (group : List (Taken Msg)) (Is : Plain → Type 0) : Type 0 where
+  pub front : List (Taken Msg)
+  pub back : List (Taken Msg)
+  pub group_is : group ≡ front ++ back
+  pub is : Is (after_taken after s front).plain
 
 -- why a message was not handled to its end, and what may be left of the disk then: the node refused it, when it is in the state before unless its disk failed; or its answers weren't said for want of
 -- memory, when it is in the state behind it
@@ -45,30 +46,44 @@ pub record IsUnsaidStep (id : ℕ) (known : Known) (left : List ℕ → Type 0) 
   pub at_is : now ≡ after id known s m
   pub leaves : (bytes : List ℕ) → left bytes → StandsFor (after id known s m).plain bytes
 
--- where the store held what its disk had; and whether or not it did, the node stops so
-pub record IsUnhandled (id : ℕ) (known : Known) (Held : Type 0) (left : List ℕ → Type 0) (s now : State) (m : Msg) (stop : Stop) : Type 0 where
-  pub cause : IsNodeStop Held stop
-  pub cut : Held → IsRefusedStep id known left s now m stop ⊎ IsUnsaidStep id known left s now m stop
-
 -- a frame of this message is the first of what is held of this peer
 pub record IsNextOf (did : List Event) (ts : List (Taken Given)) (peer : ℕ) (m : Msg) : Type 0 where
   pub rest : List ℕ
   pub got_is : read_of peer did ≡ frames (λ (e : Given). frame_of e.0) (of peer ts) ++ (frame_of m ++ rest)
 
--- where it stopped: between two frames; or at a frame that was taken, which was refused or whose answers weren't said
+-- frames of these messages are the first of what is held of this peer
+pub record AreNextOf (did : List Event) (ts : List (Taken Given)) (group : List (Taken Msg)) (peer : ℕ) : Type 0 where
+  pub rest : List ℕ
+  pub got_is : read_of peer did ≡ frames (λ (e : Given). frame_of e.0) (of peer ts) ++ (frames frame_of (of peer group) ++ rest)
+
+-- where it stopped: between two frames; at a frame that was taken, which was refused or whose answers weren't said; or at frames that were taken together, of which none was answered
 pub data Break : Type 0 where
   Between : Break
   At : (peer : ℕ) (message : Msg) → Break
+  Among : (group : List (Taken Msg)) → Break
 
 abbrev pub IsNext : List Event → List (Taken Given) → Break → Type 0
 IsNext did ts Between = Unit {0}
 IsNext did ts (At peer m) = IsNextOf did ts peer m
+IsNext did ts (Among group) = (peer : ℕ) → AreNextOf did ts group peer
+
+-- why frames that were taken together weren't answered, and what may be left of the disk then: the disk failed, or there was no memory to make them durable, when it stands for the state before them or behind
+-- some of them; or there was none for the answers, when it stands for the state behind all
+pub record IsLostGroup (id : ℕ) (known : Known) (left : List ℕ → Type 0) (s : State) (group : List (Taken Msg)) (stop : Stop) : Type 0 where
+  pub cause : (stop ≡ Disk) ⊎ (stop ≡ NoMemory)
+  pub leaves : (bytes : List ℕ) → left bytes → IsBehindSome (after id known) s group (λ p. StandsFor p bytes)
+
+pub record IsUnsaidGroup (id : ℕ) (known : Known) (left : List ℕ → Type 0) (s now : State) (group : List (Taken Msg)) (stop : Stop) : Type 0 where
+  pub cause : stop ≡ NoMemory
+  pub at_is : now ≡ after_taken (after id known) s group
+  pub leaves : (bytes : List ℕ) → left bytes → StandsFor (after_taken (after id known) s group).plain bytes
 
 -- why, and what may be left of the disk then; the node is in the state `now`, and the frames that were answered led to `last`
 module _ (id : ℕ) (known : Known) (left : List ℕ → Type 0) (stop : Stop) where
   abbrev pub IsBreak : State → State → Break → Type 0
   IsBreak last now Between = IsBetweenStop stop × (now ≡ last) × ((bytes : List ℕ) → left bytes → StandsFor last.plain bytes)
   IsBreak last now (At peer m) = IsRefusedStep id known left last now m stop ⊎ IsUnsaidStep id known left last now m stop
+  IsBreak last now (Among group) = IsLostGroup id known left last group stop ⊎ IsUnsaidGroup id known left last now group stop
 
 -- a call that went on: the frames that it took with their answers, what is held then, how many turns it took, and each frame as a step where the store holds what the disk tells
 pub record Advances (after : State → Msg → State) (answers : State → Msg → List Msg) (Held : Type 0) (did new : List Event) (now then : ℕ → Option (List ℕ)) (s next : State) (turns : ℕ) : Type 0 where
@@ -123,6 +138,7 @@ module _ (id : ℕ) (known : Known) (left : List ℕ → Type 0) (stop : Stop) w
   abbrev pub IsNextTaken : List Event → List (Taken Msg) → Break → Type 0
   IsNextTaken did ts Between = Unit {0}
   IsNextTaken did ts (At peer m) = (rest : List ℕ) × (read_of peer did ≡ frames frame_of (of peer ts) ++ (frame_of m ++ rest))
+  IsNextTaken did ts (Among group) = (peer : ℕ) → (rest : List ℕ) × (read_of peer did ≡ frames frame_of (of peer ts) ++ (frames frame_of (of peer group) ++ rest))
 
   pub record IsServedUntil (did : List Event) (start now : State) (turns : ℕ) : Type 0 where
     pub taken : List (Taken Msg)

@@ -1,5 +1,5 @@
 -- What passes with the peers of a crowd, and when serving one stops between two frames.
-use Rattle.std.specs.Prelude.{◌≡◌, ℕ, List, [], ◌∷◌, Bool, true, if◌then◌else◌, Option}
+use Rattle.std.specs.Prelude.{◌≡◌, ℕ, List, [], ◌∷◌, true, Option}
 use Rattle.std.specs.declared.result.Result.{Result}
 use Rattle.std.specs.declared.result.Result.TheVariants.{Ok, Err}
 use Rattle.ld_msg.specs.declared.msg.Msg.{Msg}
@@ -41,23 +41,28 @@ IsServing did ts now = GoOn frame_of frames_of IsLess BeginsNone did ts now
 -- ---- one call after the other ----
 
 -- how many turns a call took
-abbrev pub turns_in : Bool → ℕ
-turns_in b = if b then 1 else 0
-
-abbrev pub turns_by : {E : Type 0} → Result Bool E → ℕ
-turns_by (Ok b) = turns_in b
+abbrev pub turns_by : {E : Type 0} → Result ℕ E → ℕ
+turns_by (Ok n) = n
 turns_by (Err e) = 0
 
 abbrev pub turns_looked : {E : Type 0} → Result Seen E → ℕ
 turns_looked (Ok seen.Turn) = 1
 turns_looked (Ok seen.More) = 0
+turns_looked (Ok seen.Serve) = 0
 turns_looked (Ok seen.Over) = 0
 turns_looked (Err e) = 0
 
 abbrev pub IsOver : Seen → List Event → Type 0
 IsOver seen.Turn did = Unit {0}
 IsOver seen.More did = Unit {0}
+IsOver seen.Serve did = Unit {0}
 IsOver seen.Over did = is_over did ≡ true
+
+-- no turn was taken, and it isn't over
+abbrev pub IsNoTurn : Seen → Type 0
+IsNoTurn seen.More = Unit {0}
+IsNoTurn seen.Serve = Unit {0}
+IsNoTurn _ = ⊥
 
 -- a call of the crowd failed, or there is no memory for what is held
 abbrev pub IsBetweenStop : Stop → Type 0

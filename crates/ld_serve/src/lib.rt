@@ -5,7 +5,7 @@
 mod answer;
 mod chats;
 mod crowd;
-mod handle;
+mod group;
 mod input;
 mod look;
 mod many;

@@ -28,7 +28,7 @@ use Rattle.ld_segment.proofs.Sound.{sound_kept}
 use Rattle.ld_segment.proofs.Planning.{op_fits}
 use Rattle.ld_segment.proofs.OpRow.{kept_made, kept_or_not}
 use Rattle.ld_store.specs.Laid.{layout_in, placed_in, IsPast}
-use Rattle.ld_store.specs.Open.{disk_of, must_load, is_blank, index_of, layout_of, slots_of, plain_of, told_plain, within, Holds}
+use Rattle.ld_store.specs.Open.{disk_of, must_load, is_blank, staged_of, index_of, layout_of, slots_of, plain_of, told_plain, within, Holds}
 use Rattle.ld_store.specs.declared.laid.Laid.{Laid}
 use Rattle.ld_store.specs.declared.store.Store.{Store}
 use Rattle.ld_store.proofs.Inside.{inside}
@@ -177,7 +177,7 @@ module _ {D : Type 0} {g : Ghosts D} (may_leave : D → List ℕ → Type 0) (ol
         subst (λ p. StandsForEither p (apply p o) c) (sym holds.plain) (kept_or_not y z holds.bytes o holds.lies holds.sound (may none) c row)
 
     module _ (new : Store D g) (laid : layout_of new ≡ kept_in y o) (slots : slots_of new ≡ slots_with y z (op_length o)) (rests : Rests g.seen may_leave (disk_of new) (row_made 13 (layout_in old.laid i) z body holds.bytes))
-        (some : is_blank new ≡ false) (works : must_load new ≡ false) where
+        (some : is_blank new ≡ false) (works : must_load new ≡ false) (nothing : staged_of new ≡ None) where
       abbrev b : List ℕ
       b = row_made 13 y z (op_bytes o) holds.bytes
 
@@ -206,6 +206,7 @@ module _ {D : Type 0} {g : Ghosts D} (may_leave : D → List ℕ → Type 0) (ol
         inside = subst (λ t. IfSome t (λ bytes. each_plain (within (length bytes)) (index_of new) ≡ index_of new)) (sym rests_now.bytes_are) (inside (written (layout_of new)) (layout_of new) (slots_of new) b lies_now sound_now);
         blank = some ∙ sym (kept_ops y o (slots_with y z (op_length o)) b made.0) ∙ ap (λ w. w.ops == 0) (sym laid);
         works = works;
+        none = nothing;
       }
 
     -- it represents the plain state with the op

@@ -9,6 +9,8 @@ pub mod Holding
 pub mod Inside
 pub mod PastEnd
 pub mod Applying
+pub mod Staging
+pub mod Ahead
 pub mod Heads
 pub mod Replaying
 pub mod Damage

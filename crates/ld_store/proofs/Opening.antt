@@ -17,7 +17,7 @@ use Rattle.ld_journal.specs.Format.{records}
 use Rattle.ld_store.specs.Ops.{IfOpenAs, IsOfFirst, IsDamaged}
 use Rattle.ld_store.specs.Faults.{passed_on}
 use Rattle.ld_store.specs.Loads.{Loads}
-use Rattle.ld_store.specs.Open.{disk_of, must_load, is_blank, index_of, layout_of, slots_of, told_plain, within, Holds, IsOpened}
+use Rattle.ld_store.specs.Open.{disk_of, must_load, staged_of, is_blank, index_of, layout_of, slots_of, told_plain, within, Holds, IsOpened}
 use Rattle.ld_store.specs.Read.{IsOut}
 use Rattle.ld_store.specs.Opened.{IsSettled, IsOpen, IsBlank}
 use Rattle.ld_store.specs.declared.store.Store.{Store}
@@ -52,8 +52,8 @@ none_damaged None image place tells reads each damaged = absurd (cc tells)
 -- ---- what a store holds ----
 
 module _ {D : Type 0} {g : Ghosts D} (may_leave : D → List ℕ → Type 0) where
-  pub held : (store : Store D g) (bytes : List ℕ) → must_load store ≡ false → IsOpen g.seen may_leave (disk_of store) store.laid (index_of store) (is_blank store) bytes → (p : Plain) → StandsFor p bytes → Holds g.seen may_leave store
-  held store bytes works is p stands =
+  pub held : (store : Store D g) (bytes : List ℕ) → must_load store ≡ false → staged_of store ≡ None → IsOpen g.seen may_leave (disk_of store) store.laid (index_of store) (is_blank store) bytes → (p : Plain) → StandsFor p bytes → Holds g.seen may_leave store
+  held store bytes works none is p stands =
       let h = is.holds p stands in
       record {
         bytes = h.now;
@@ -64,11 +64,12 @@ module _ {D : Type 0} {g : Ghosts D} (may_leave : D → List ℕ → Type 0) whe
         inside = subst (λ o. IfSome o (λ told. each_plain (within (length told)) (index_of store) ≡ index_of store)) (sym h.rests.bytes_are) (within_end (written (layout_of store)) (layout_of store) (slots_of store) h.now h.lies h.sound);
         blank = h.blank_is;
         works = works;
+        none = none;
       }
 
-  pub opened_on : (store : Store D g) (bytes : List ℕ) → must_load store ≡ false → IsOpen g.seen may_leave (disk_of store) store.laid (index_of store) (is_blank store) bytes → IsBlank (is_blank store) bytes → IsOpened g.seen may_leave store bytes
-  opened_on store bytes works is blank = record {
-    holds = held store bytes works is;
+  pub opened_on : (store : Store D g) (bytes : List ℕ) → must_load store ≡ false → staged_of store ≡ None → IsOpen g.seen may_leave (disk_of store) store.laid (index_of store) (is_blank store) bytes → IsBlank (is_blank store) bytes → IsOpened g.seen may_leave store bytes
+  opened_on store bytes works none is blank = record {
+    holds = held store bytes works none is;
     plain = λ p stands. (let h = is.holds p stands in ap (λ o. told_plain o (index_of store)) h.rests.bytes_are ∙ sym h.plain);
     blank = blank.none;
     some = blank.some;

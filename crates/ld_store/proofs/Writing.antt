@@ -21,7 +21,7 @@ use Rattle.ld_store.specs.declared.laid.Laid.{Laid}
 
 -- ---- where it goes ----
 
-behind_is : (y : Plan) (index : Plain) → gate_behind y.end y.later ≡ gate_in (laid_out y index) (later_of y.later)
+pub behind_is : (y : Plan) (index : Plain) → gate_behind y.end y.later ≡ gate_in (laid_out y index) (later_of y.later)
 behind_is y index = by y.later
   where
     by : (a : Option Stretch) → gate_behind y.end a ≡ gate_in (laid_out y index) (later_of a)
@@ -32,7 +32,7 @@ module _ (kind : ℕ) (y : Layout) (z : Slots) (body : List ℕ) where
   abbrev r : ℕ
   r = record_length (length body)
 
-  gate_is : gate_in (placed_in y (length body)) (placed_in y (length body)).later ≡ (planned kind y z body).gate
+  pub gate_is : gate_in (placed_in y (length body)) (placed_in y (length body)).later ≡ (planned kind y z body).gate
   unfolding switched_to
   gate_is = by (switches y (length body))
     where

@@ -4,6 +4,9 @@ pub mod Laid
 pub mod Replayed
 pub mod Read
 pub mod Opened
+pub mod Group
 pub mod Open
+pub mod Ahead
 pub mod Loads
 pub mod Well
+pub mod Low

@@ -1,5 +1,5 @@
 -- What an open store knows of its disk.
-use Rattle.std.specs.Prelude.{◌≡◌, ◌==◌, ℕ, List, [], length, Option, None, Some, IfSome, Bool, true, false}
+use Rattle.std.specs.Prelude.{◌≡◌, ◌==◌, ℕ, List, [], length, Option, None, IfSome, Bool, true, false}
 use Rattle.ld_disk.specs.declared.disk.Disk.{Ghosts}
 use Rattle.ld_op.specs.Plain.{Plain}
 use Rattle.ld_op.specs.Cells.{each_plain, read_plain}
@@ -10,11 +10,7 @@ use Rattle.ld_store.specs.Ops.{IsJournalOf, StandsFor}
 use Rattle.ld_store.specs.Laid.{layout_in, slots_in}
 use Rattle.ld_store.specs.declared.store.Store.{Store}
 pub use Rattle.ld_store.specs.Ops.{within}
-
--- what an index represents on a disk of these bytes, where it tells them
-abbrev pub told_plain : Option (List ℕ) → Plain → Plain
-told_plain None index = index
-told_plain (Some bytes) index = read_plain bytes index
+pub use Rattle.ld_store.specs.Group.{told_plain}
 
 module _ {D : Type 0} {g : Ghosts D} where
   -- the disk that the store owns
@@ -28,6 +24,10 @@ module _ {D : Type 0} {g : Ghosts D} where
   -- no record stands in the journal
   abbrev pub is_blank : Store D g → Bool
   is_blank store = store.blank
+
+  -- the gate of the group that is staged, where one is
+  abbrev pub staged_of : Store D g → Option ℕ
+  staged_of store = store.staged
 
   -- the plain state in memory, with the places of its payloads
   abbrev pub index_of : Store D g → Plain
@@ -57,6 +57,8 @@ module _ {D : Type 0} {g : Ghosts D} (seen : D → Option (List ℕ)) (may_leave
     pub inside : IfSome (seen (disk_of store)) (λ bytes. each_plain (within (length bytes)) (index_of store) ≡ index_of store)
     pub blank : is_blank store ≡ ((layout_of store).ops == 0)
     pub works : must_load store ≡ false
+    -- nothing is staged
+    pub none : staged_of store ≡ None
 
   -- where these bytes represent a plain state, the store holds it, with a mark behind a journal of the first version; it is blank exactly where they have no record
   pub record IsOpened (store : Store D g) (bytes : List ℕ) : Type 0 where

@@ -1,8 +1,9 @@
-//! A node's plain state on a disk: each op is durable before it is applied. In memory stands its index, whose payloads are
-//! the offsets of their bytes.
+//! A node's plain state on a disk: each op is durable before it is applied, or it is staged, and all that are staged are made
+//! durable together. In memory stands its index, whose payloads are the offsets of their bytes.
 #![tactic(auto)]
 
 mod fault;
+mod group;
 mod laid;
 mod open;
 mod payloads;

@@ -1,21 +1,21 @@
 // A node's plain state, and the disk in segments that its ops are durable on.
 ghost use Rattle.std.specs.Prelude.{◌≡◌, true};
 ghost use Rattle.ld_store.specs.Well.{IsWell, IsWell-prop};
+ghost use Rattle.ld_store.specs.Low.{IsLow, IsLow-prop};
 
 use crate::StoreFault;
+use crate::group::stage_record;
 use crate::laid::Laid;
 use crate::open::{Opened, open};
 use crate::payloads::{read_body, read_payload};
-use crate::write::write_record;
+use crate::write::{BASE, write_record};
 use ld_disk::{Disk, Fault};
 use ld_ids::Payload;
 use ld_journal::settle;
 use ld_msg::Msg;
 use ld_op::{Draft, Epochs, Op, Place, Plain};
+use ld_segment::open_group;
 use std::alloc::Global;
-
-/// The first byte of a Base in a journal of the second version.
-const BASE: u8 = 13;
 
 /// A node's plain state, and the disk that its ops are kept on, in a journal of the second version. The state's numbers
 /// are what a journal's body can carry; its entries rise, each is one and stands under its number, and each summary is
@@ -27,7 +27,10 @@ pub struct Store<D: Disk> {
     laid: Laid,
     blank: bool,
     failed: bool,
+    /// The gate of the group that is staged, where one is.
+    staged: Option<u64>,
     pub ghost well: { IsWell index.state } by { IsWell-prop index.state },
+    pub ghost low: { IsLow staged } by { IsLow-prop staged },
 }
 
 impl<D: Disk> Store<D> {
@@ -48,6 +51,7 @@ impl<D: Disk> Store<D> {
     ghost use Rattle.ld_store.specs.Loads.{LeftOrMarked, Loads};
     ghost use Rattle.ld_op.specs.Cells.{each_msg, byte_at};
     ghost use Rattle.ld_store.specs.Open.{disk_of, must_load, is_blank, index_of, layout_of, slots_of, plain_of, within, Holds, IsOpened};
+    ghost use Rattle.ld_store.specs.Ahead.{HoldsOr};
 
     /// Opens the store on a disk, in one writing call: its records are replayed in one walk, or those behind the Base of
     /// its current segment, where there is a later one. A journal of the first version is then marked as one of the
@@ -114,6 +118,7 @@ impl<D: Disk> Store<D> {
                 laid,
                 blank,
                 failed: false,
+                staged: None,
             }),
             Err(fault) => Err((disk, fault)),
         }
@@ -157,6 +162,7 @@ impl<D: Disk> Store<D> {
         ensures faults { D.faults (disk_of self.new) ≡ D.faults (disk_of self.old) }
         ensures rest { (layout_of self.new ≡ layout_of self.old) × (slots_of self.new ≡ slots_of self.old) × (index_of self.new ≡ index_of self.old) × (plain_of self.new ≡ plain_of self.old) × (is_blank self.new ≡ is_blank self.old) × (must_load self.new ≡ must_load self.old) }
         ensures holds { Holds D.seen D.may_leave self.old → Holds D.seen D.may_leave self.new }
+        ensures ahead { (p : State) → HoldsOr D.seen D.may_leave self.old p → HoldsOr D.seen D.may_leave self.new p }
     {
         self.disk.arm(fault);
     }
@@ -166,7 +172,8 @@ impl<D: Disk> Store<D> {
     ///
     /// It refuses with `Full` where the record, or the segment that it needs, would pass 2^40 bytes, and with `NoMemory`;
     /// then nothing has changed. It refuses with `Disk` where a call of the disk failed: the op is then there or not, which the next
-    /// load tells, and until then each call answers `NeedsLoad`. No refusal changes the index.
+    /// load tells, and until then each call answers `NeedsLoad`. No refusal changes the index. Where something is staged it
+    /// refuses with `NoMemory`: `commit` comes first.
     pub fn apply(&mut self, alloc: Global, op: Op) -> Result<(), StoreFault>
         requires op { IsOp op }
         requires format { is_format op ≡ is_blank self.old }
@@ -211,6 +218,9 @@ impl<D: Disk> Store<D> {
         if self.failed {
             return Err(StoreFault::NeedsLoad);
         }
+        if self.staged.is_some() {
+            return Err(StoreFault::NoMemory);
+        }
         self.index.room(alloc, &op)?;
         let mut body = Vec::new(alloc);
         op.encode(alloc, &mut body)?;
@@ -235,6 +245,118 @@ impl<D: Disk> Store<D> {
         }
     }
 
+    /// Writes an op behind the others that are staged, in a new segment where the current one is full, and then applies
+    /// it. The op is as `apply` asks for it. It is durable only after `commit`: a crash before that leaves what
+    /// represents the plain state without all that is staged. Where a switch comes first, what was staged is made
+    /// durable before it.
+    ///
+    /// It refuses with `Full` where the record, or the segment that it needs, would pass 2^40 bytes, and with `NoMemory`;
+    /// then nothing has changed. It refuses with `Disk` where a call of the disk failed: what was staged is then there or
+    /// not, and this op isn't, and until the next load each call answers `NeedsLoad`. No refusal changes the index.
+    pub fn stage(&mut self, alloc: Global, op: Op) -> Result<(), StoreFault>
+        requires op { IsOp op }
+        requires format { is_format op ≡ is_blank self.old }
+
+        // A crash leaves what represents the plain state that it did before, or that with all that was staged before.
+        ensures staged { (p : State) → HoldsOr D.seen D.may_leave self.old p
+            → OnOk result ((q : State) × ((q ≡ p) ⊎ (q ≡ plain_of self.old)) × HoldsOr D.seen D.may_leave self.new q) }
+        ensures any_moment { (p : State) → HoldsOr D.seen D.may_leave self.old p
+            → LeavesOnly D.moment D.left_since (disk_of self.old) (disk_of self.new) (StandsForEither p (plain_of self.old)) }
+
+        ensures applied { (p : State) → HoldsOr D.seen D.may_leave self.old p → OnOk result (plain_of self.new ≡ apply (plain_of self.old) op) }
+        ensures kept { OnOk result ((layout_of self.new ≡ kept_in (layout_of self.old) op) × (slots_of self.new ≡ slots_with (layout_of self.old) (slots_of self.old) (op_length op)) × (is_blank self.new ≡ false)) }
+        ensures refused { OnErr result ((index_of self.new ≡ index_of self.old) × (layout_of self.new ≡ layout_of self.old) × (slots_of self.new ≡ slots_of self.old) × (is_blank self.new ≡ is_blank self.old)) }
+        ensures honest { IsHonest (D.seen (disk_of self.old)) → IsHonest (D.seen (disk_of self.new)) }
+        ensures full { IsErrOf result StoreFault.Full → (must_load self.old ≡ false) × ((p : State) → HoldsOr D.seen D.may_leave self.old p → passes_limit (layout_of self.old) op ≡ true) }
+        ensures too_long { must_load self.old ≡ false → passes_limit (layout_of self.old) op ≡ true → IsErrOf result StoreFault.Full ⊎ IsErrOf result StoreFault.NoMemory }
+        ensures needs_load { IsErrOf result StoreFault.NeedsLoad ↔ (must_load self.old ≡ true) }
+        ensures loads { (must_load self.new ≡ true) ↔ ((must_load self.old ≡ true) ⊎ IsErrOf result StoreFault.Disk) }
+        ensures damaged { (place : ℕ) → result ≢ Err (StoreFault.Damaged place) }
+        ensures itself { D.identity (disk_of self.new) ≡ D.identity (disk_of self.old) }
+        ensures counts { D.faults (disk_of self.old) ≤ D.faults (disk_of self.new) }
+        ensures steady { IsErrOf result StoreFault.Disk ⊎ (D.faults (disk_of self.new) ≡ D.faults (disk_of self.old)) }
+        ensures failed { IsErrOf result StoreFault.Disk → Rose (D.faults (disk_of self.old)) (D.faults (disk_of self.new)) }
+
+        // Another refusal than `Disk` changes nothing.
+        ensures stays { OnErr result (IsErrOf result StoreFault.Disk ⊎ Unchanged D.seen D.may_leave D.moment D.left_since (disk_of self.old) (disk_of self.new)) }
+        ensures holds { (p : State) → HoldsOr D.seen D.may_leave self.old p
+            → OnErr result (IsErrOf result StoreFault.Disk ⊎ HoldsOr D.seen D.may_leave self.new p) }
+    {
+        if self.failed {
+            return Err(StoreFault::NeedsLoad);
+        }
+        self.index.room(alloc, &op)?;
+        let mut body = Vec::new(alloc);
+        op.encode(alloc, &mut body)?;
+        match stage_record(
+            alloc,
+            &mut self.disk,
+            &mut self.laid,
+            &self.index,
+            body,
+            self.staged,
+        ) {
+            Ok(gates) => {
+                self.index.apply(op, gates.0 + 5);
+                self.blank = false;
+                self.staged = Some(gates.1);
+                Ok(())
+            }
+            Err(fault) => {
+                self.failed = fault == StoreFault::Disk;
+                Err(fault)
+            }
+        }
+    }
+
+    /// Makes all that is staged durable, in three writing calls; in none where nothing is.
+    ///
+    /// It refuses with `NoMemory`; then nothing has changed. It refuses with `Disk` where a call of the disk failed: all that
+    /// was staged is then there or none of it, which the next load tells, and until then each call answers `NeedsLoad`.
+    /// No refusal changes the index.
+    pub fn commit(&mut self) -> Result<(), StoreFault>
+        ensures durable { (p : State) → HoldsOr D.seen D.may_leave self.old p → OnOk result (Holds D.seen D.may_leave self.new) }
+        ensures plain { (p : State) → HoldsOr D.seen D.may_leave self.old p → OnOk result (plain_of self.new ≡ plain_of self.old) }
+        ensures same { (index_of self.new ≡ index_of self.old) × (layout_of self.new ≡ layout_of self.old) × (slots_of self.new ≡ slots_of self.old) × (is_blank self.new ≡ is_blank self.old) }
+
+        // A crash at any moment of the call leaves what represents the plain state without all that is staged, or with it.
+        ensures any_moment { (p : State) → HoldsOr D.seen D.may_leave self.old p
+            → LeavesOnly D.moment D.left_since (disk_of self.old) (disk_of self.new) (StandsForEither p (plain_of self.old)) }
+        ensures honest { IsHonest (D.seen (disk_of self.old)) → IsHonest (D.seen (disk_of self.new)) }
+        ensures refused { OnErr result (IsErrOf result StoreFault.Disk ⊎ (IsErrOf result StoreFault.NoMemory ⊎ IsErrOf result StoreFault.NeedsLoad)) }
+        ensures needs_load { IsErrOf result StoreFault.NeedsLoad ↔ (must_load self.old ≡ true) }
+        ensures loads { (must_load self.new ≡ true) ↔ ((must_load self.old ≡ true) ⊎ IsErrOf result StoreFault.Disk) }
+        ensures itself { D.identity (disk_of self.new) ≡ D.identity (disk_of self.old) }
+        ensures counts { D.faults (disk_of self.old) ≤ D.faults (disk_of self.new) }
+        ensures steady { IsErrOf result StoreFault.Disk ⊎ (D.faults (disk_of self.new) ≡ D.faults (disk_of self.old)) }
+        ensures failed { IsErrOf result StoreFault.Disk → Rose (D.faults (disk_of self.old)) (D.faults (disk_of self.new)) }
+
+        // Another refusal than `Disk` changes nothing.
+        ensures stays { OnErr result (IsErrOf result StoreFault.Disk ⊎ Unchanged D.seen D.may_leave D.moment D.left_since (disk_of self.old) (disk_of self.new)) }
+        ensures holds { (p : State) → HoldsOr D.seen D.may_leave self.old p
+            → OnErr result (IsErrOf result StoreFault.Disk ⊎ HoldsOr D.seen D.may_leave self.new p) }
+    {
+        if self.failed {
+            return Err(StoreFault::NeedsLoad);
+        }
+        match self.staged {
+            None => Ok(()),
+            Some(gate) => {
+                self.disk.reserve(gate + 1, 3)?;
+                match open_group(&mut self.disk, gate) {
+                    Ok(()) => {
+                        self.staged = None;
+                        Ok(())
+                    }
+                    Err(fault) => {
+                        self.failed = true;
+                        Err(StoreFault::from(fault))
+                    }
+                }
+            }
+        }
+    }
+
     /// The message that a draft is: each of its payloads is read from the disk.
     ///
     /// It refuses with `Disk` where a read failed, and until the next load each call answers `NeedsLoad`; with
@@ -252,6 +374,8 @@ impl<D: Disk> Store<D> {
         ensures rest { (layout_of self.new ≡ layout_of self.old) × (slots_of self.new ≡ slots_of self.old) × (index_of self.new ≡ index_of self.old) × (is_blank self.new ≡ is_blank self.old) }
         ensures holds { Holds D.seen D.may_leave self.old
             → IsErrOf result StoreFault.Disk ⊎ Holds D.seen D.may_leave self.new }
+        ensures ahead { (p : State) → HoldsOr D.seen D.may_leave self.old p
+            → IsErrOf result StoreFault.Disk ⊎ HoldsOr D.seen D.may_leave self.new p }
         ensures full { result ≢ Err StoreFault.Full }
         ensures needs_load { IsErrOf result StoreFault.NeedsLoad ↔ (must_load self.old ≡ true) }
         ensures loads { (must_load self.new ≡ true) ↔ ((must_load self.old ≡ true) ⊎ IsErrOf result StoreFault.Disk) }
@@ -296,6 +420,8 @@ impl<D: Disk> Store<D> {
         ensures rest { (layout_of self.new ≡ layout_of self.old) × (slots_of self.new ≡ slots_of self.old) × (index_of self.new ≡ index_of self.old) × (is_blank self.new ≡ is_blank self.old) }
         ensures holds { Holds D.seen D.may_leave self.old
             → IsErrOf result StoreFault.Disk ⊎ Holds D.seen D.may_leave self.new }
+        ensures ahead { (p : State) → HoldsOr D.seen D.may_leave self.old p
+            → IsErrOf result StoreFault.Disk ⊎ HoldsOr D.seen D.may_leave self.new p }
         ensures full { result ≢ Err StoreFault.Full }
         ensures needs_load { IsErrOf result StoreFault.NeedsLoad ↔ (must_load self.old ≡ true) }
         ensures loads { (must_load self.new ≡ true) ↔ ((must_load self.old ≡ true) ⊎ IsErrOf result StoreFault.Disk) }

@@ -22,8 +22,11 @@ use ld_segment::{Plan, write_op};
 use std::alloc::Global;
 use std::mem;
 
+/// The first byte of a Base in a journal of the second version.
+pub(crate) const BASE: u8 = 13;
+
 /// The plan of a record of this body, and the new segment that it needs, where there is one. A Base begins with `kind`.
-fn prepare(
+pub(crate) fn prepare(
     alloc: Global,
     laid: &Laid,
     index: &Plain,

@@ -1,4 +1,5 @@
 // Stores on disks in memory: what an op leaves on the disk, and what a load finds after a crash.
+mod group;
 mod payload;
 mod segment;
 mod version;

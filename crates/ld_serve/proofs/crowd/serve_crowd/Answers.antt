@@ -79,16 +79,18 @@ returns-then-taken-turns-clause-disk_counts g c = c.looks.invariant.disk
 
 pub returns-in_err-count-clause-heard_until : goal.returns-in_err-count-clause-heard_until
 returns-in_err-count-clause-heard_until g c =
-    let h = halts_where _ _ _ _ _ _ c.looks.invariant.id c.looks.invariant.known c.looks.invariant.holds _ (g.C.Crowd.did c.looks.crowd) (g.C.Crowd.did c.go.new.crowd) (held_in c.looks.chats.chats) (state_of c.looks.node) (state_of c.go.new.node) 1 c.in_err-count.field-0.0 c.in_err-count.ensures.off in
+    let h = halts_where _ _ _ _ _ _ c.looks.invariant.id c.looks.invariant.known c.looks.invariant.holds _ (g.C.Crowd.did c.looks.crowd) (g.C.Crowd.did c.go.new.crowd) (held_in c.looks.chats.chats) (state_of c.looks.node) (state_of c.go.new.node) (c.args.turns - c.looks.taken) c.in_err-count.field-0.0 c.in_err-count.ensures.off in
     let p = err_from_is_err_and c.from_residual.result c.from_residual.ensures.1 in
-    rw p.1 (heard_until _ _ _ _ _ (g.C.Crowd.did c.looks.crowd) (g.C.Crowd.did c.go.new.crowd) (held_in c.looks.chats.chats) (state_of c.args.node.now) (state_of c.looks.node) (state_of c.go.new.node) c.looks.taken c.args.turns c.looks.invariant.so c.if-taken-turns.false h)
+    let few : c.looks.taken + (c.args.turns - c.looks.taken) ≤ c.args.turns = omega (arith, c.if-taken-turns.false) in
+    rw p.1 (heard_until _ _ _ _ _ (g.C.Crowd.did c.looks.crowd) (g.C.Crowd.did c.go.new.crowd) (held_in c.looks.chats.chats) (state_of c.args.node.now) (state_of c.looks.node) (state_of c.go.new.node) c.looks.taken (c.args.turns - c.looks.taken) c.args.turns c.looks.invariant.so few h)
 
 pub returns-in_err-count-clause-stopped : goal.returns-in_err-count-clause-stopped
 returns-in_err-count-clause-stopped g c =
     λ held.
-    let h = halts_where _ _ _ _ _ _ c.looks.invariant.id c.looks.invariant.known c.looks.invariant.holds _ (g.C.Crowd.did c.looks.crowd) (g.C.Crowd.did c.go.new.crowd) (held_in c.looks.chats.chats) (state_of c.looks.node) (state_of c.go.new.node) 1 c.in_err-count.field-0.0 c.in_err-count.ensures.off in
+    let h = halts_where _ _ _ _ _ _ c.looks.invariant.id c.looks.invariant.known c.looks.invariant.holds _ (g.C.Crowd.did c.looks.crowd) (g.C.Crowd.did c.go.new.crowd) (held_in c.looks.chats.chats) (state_of c.looks.node) (state_of c.go.new.node) (c.args.turns - c.looks.taken) c.in_err-count.field-0.0 c.in_err-count.ensures.off in
     let p = err_from_is_err_and c.from_residual.result c.from_residual.ensures.1 in
-    rw (p.1, p.2) (served_until _ _ _ _ _ (g.C.Crowd.did c.looks.crowd) (g.C.Crowd.did c.go.new.crowd) (held_in c.looks.chats.chats) (state_of c.args.node.now) (state_of c.looks.node) (state_of c.go.new.node) c.looks.taken c.args.turns c.looks.invariant.so c.if-taken-turns.false h held)
+    let few : c.looks.taken + (c.args.turns - c.looks.taken) ≤ c.args.turns = omega (arith, c.if-taken-turns.false) in
+    rw (p.1, p.2) (served_until _ _ _ _ _ (g.C.Crowd.did c.looks.crowd) (g.C.Crowd.did c.go.new.crowd) (held_in c.looks.chats.chats) (state_of c.args.node.now) (state_of c.looks.node) (state_of c.go.new.node) c.looks.taken (c.args.turns - c.looks.taken) c.args.turns c.looks.invariant.so few h held)
 
 pub returns-in_err-count-clause-rest : goal.returns-in_err-count-clause-rest
 returns-in_err-count-clause-rest g c = (c.in_err-count.ensures.rest.0 ∙ c.looks.invariant.id, c.in_err-count.ensures.rest.1 ∙ c.looks.invariant.known, c.in_err-count.ensures.rest.2)

@@ -9,7 +9,7 @@ use Rattle.ld_serve.specs.Talking.{IsLess, BeginsNone}
 use Rattle.ld_serve.proofs.Serving.{stand}
 use Rattle.ld_serve.proofs.Looks.{Held}
 use Rattle.ld_serve.proofs.Crowds.{none_taken, advances_from, halts_from, aside_on, aside_off}
-use Rattle.ld_serve.proofs.CrowdStops.{either_way, aside_crowd, aside_disk, aside_link}
+use Rattle.ld_serve.proofs.CrowdStops.{few_as, either_way, aside_crowd, aside_disk, aside_link}
 use Rattle.ld_serve.proofs.crowd.serve_next.Goals as goal
 
 pub returns-in_default-clause-on : goal.returns-in_default-clause-on
@@ -22,7 +22,7 @@ pub returns-then-is_full-clause-on : goal.returns-then-is_full-clause-on
 returns-then-is_full-clause-on g c = aside_on _ _ _ _ (held_in c.args.chats.now.chats) (held_in c.next.new.self.chats) _ c.in-Some.peer c.in-Some.decoder.bytes _ c.set_aside.result c.in-Some.ensures.next c.set_aside.ensures.kept
 
 pub returns-then-is_full-clause-off : goal.returns-then-is_full-clause-off
-returns-then-is_full-clause-off g c = aside_off _ _ _ _ _ _ _ c.set_aside.result c.set_aside.ensures.stops (λ held. stand g.D.Disk.seen g.D.Disk.may_leave c.args.node.now (plain_of c.args.node.now) refl held)
+returns-then-is_full-clause-off g c = aside_off _ _ _ _ _ _ _ _ c.set_aside.result c.set_aside.ensures.stops (λ held. stand g.D.Disk.seen g.D.Disk.may_leave c.args.node.now (plain_of c.args.node.now) refl held)
 
 pub returns-then-is_full-clause-works : goal.returns-then-is_full-clause-works
 returns-then-is_full-clause-works g c = either_way _ c.set_aside.result c.requires.works
@@ -47,7 +47,7 @@ returns-clause-on g c =
 pub returns-clause-off : goal.returns-clause-off
 returns-clause-off g c =
     let mid : Held = held_in c.next.new.self.chats in
-    halts_from _ _ _ _ _ _ (held_in c.args.chats.now.chats) (put c.in-Some.peer (Some c.in-Some.decoder.bytes) mid) _ _ c.serve_peer.result c.in-Some.ensures.next c.serve_peer.ensures.off
+    halts_from _ _ _ _ _ _ _ (held_in c.args.chats.now.chats) (put c.in-Some.peer (Some c.in-Some.decoder.bytes) mid) _ _ c.serve_peer.result c.in-Some.ensures.next c.serve_peer.ensures.off
 
 pub returns-clause-len : goal.returns-clause-len
 returns-clause-len g c = c.serve_peer.ensures.len
@@ -75,3 +75,9 @@ returns-clause-crowd_counts g c = c.serve_peer.ensures.crowd_counts
 
 pub returns-clause-disk_counts : goal.returns-clause-disk_counts
 returns-clause-disk_counts g c = c.serve_peer.ensures.disk_counts
+
+pub returns-then-is_full-clause-few : goal.returns-then-is_full-clause-few
+returns-then-is_full-clause-few g c = few_as c.set_aside.result _ 0 c.args.most (omega arith) c.set_aside.ensures.kept
+
+pub returns-clause-few : goal.returns-clause-few
+returns-clause-few g c = c.serve_peer.ensures.few

@@ -28,7 +28,7 @@ apply-requires-clause-fits g c =
 pub invariant_of-self-in-Ok : goal.invariant_of-self-in-Ok
 invariant_of-self-in-Ok g c =
     let at = c.in-Ok.gate + 5 in
-    record { well = well_too c.args.self.now.index.state c.apply.new.self.state (placed at c.args.op) c.args.self.now.well (placed_is at c.args.op c.requires.op) (c.apply.ensures ∙ ap (λ s. apply s (placed at c.args.op)) c.in_ok-room.ensures.same) }
+    record { well = well_too c.args.self.now.index.state c.apply.new.self.state (placed at c.args.op) c.args.self.now.well (placed_is at c.args.op c.requires.op) (c.apply.ensures ∙ ap (λ s. apply s (placed at c.args.op)) c.in_ok-room.ensures.same); low = c.args.self.now.low }
 
 pub returns-in-Ok-clause-kept : goal.returns-in-Ok-clause-kept
 returns-in-Ok-clause-kept g c =
@@ -46,7 +46,7 @@ pub returns-in-Ok-clause-acknowledged : goal.returns-in-Ok-clause-acknowledged
 returns-in-Ok-clause-acknowledged g c holds =
     let is = body_is c.args.op c.new-body.result.items c.encode.new.out.items c.new-body.ensures.items c.in_ok-encode.ensures.ok in
     let kept = returns-in-Ok-clause-kept g c in
-    held_now g.D.Disk.may_leave c.args.self.now c.args.op c.room.new.self.state c.encode.new.out.items c.in_ok-room.ensures.same is holds c.requires.op c.requires.format (c.in-Ok.ensures.within (inl refl)) _ kept.0 kept.1 (c.in-Ok.ensures.rests holds.bytes holds.rests) refl c.if-self.false
+    held_now g.D.Disk.may_leave c.args.self.now c.args.op c.room.new.self.state c.encode.new.out.items c.in_ok-room.ensures.same is holds c.requires.op c.requires.format (c.in-Ok.ensures.within (inl refl)) _ kept.0 kept.1 (c.in-Ok.ensures.rests holds.bytes holds.rests) refl c.if-self.false holds.none
 
 pub returns-in-Ok-clause-areas : goal.returns-in-Ok-clause-areas
 returns-in-Ok-clause-areas g c holds = (returns-in-Ok-clause-acknowledged g c holds).sound

@@ -39,7 +39,7 @@ returns-in-Err-clause-honest g c tells each place is =
 pub returns-in-Ok-open-clause-opens : goal.returns-in-Ok-open-clause-opens
 returns-in-Ok-open-clause-opens g c =
     let D = g.D.Disk in
-    if_some (D.seen c.args.disk) (Settled D.seen D.may_leave c.settle.new.disk c.in-Ok.len) _ (λ bytes told set. (let s = settled_is D.seen D.may_leave c.settle.new.disk c.in-Ok.len bytes set in opened_on D.may_leave _ bytes refl (c.in-Ok-open.ensures.opened bytes s) (c.in-Ok-open.ensures.blank bytes s))) c.in-Ok.ensures.settled
+    if_some (D.seen c.args.disk) (Settled D.seen D.may_leave c.settle.new.disk c.in-Ok.len) _ (λ bytes told set. (let s = settled_is D.seen D.may_leave c.settle.new.disk c.in-Ok.len bytes set in opened_on D.may_leave _ bytes refl refl (c.in-Ok-open.ensures.opened bytes s) (c.in-Ok-open.ensures.blank bytes s))) c.in-Ok.ensures.settled
 
 pub returns-in-Ok-open-clause-any_moment : goal.returns-in-Ok-open-clause-any_moment
 returns-in-Ok-open-clause-any_moment g c =
