@@ -155,6 +155,8 @@ NODES = [
     ("--id 1 --port 1 --turns 9 --help", ""),
     ("--id 1 --port 1 --turns 9 --format --format", ""),
     ("--id 1 --port 1 --turns 9 --format=true", ""),
+    ("--id 1 --port 1 --turns 9 --quiet --quiet", ""),
+    ("--id 1 --port 1 --peers 2 --quiet=true", ""),
     ("--id 1 --port 1 --turns 9 --store t", ""),
 ]
 
@@ -219,6 +221,12 @@ APPENDS = [
     ("--log 1 --port 1 --rounds 1 --store s", ""),
     ("--log 1 --port 1 --rounds 1 --from e1n1 --until e1n1", ""),
     ("--log 1 --port 1 --rounds 1 --move --move", ""),
+    ("--log 1 --port 1 --rounds 1 --in-flight 0", "--in-flight isn't a number from 1 to 128"),
+    ("--log 1 --port 1 --rounds 1 --in-flight 129", "--in-flight isn't a number from 1 to 128"),
+    ("--log 1 --port 1 --rounds 1 --in-flight 01", "--in-flight isn't a number"),
+    ("--log 1 --port 1 --rounds 1 --in-flight 2 --in-flight 2", ""),
+    ("--log 1 --port 1 --rounds 1 --in-flight", ""),
+    ("--log 1 --port 1 --rounds 1 --quiet", ""),
     ("--log 1 --port 1 --follow", ""),
 ]
 

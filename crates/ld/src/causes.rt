@@ -159,8 +159,8 @@ fn file_of<'a>(which: Which, places: &'a Places) -> &'a str {
 /// How the commands are spelt.
 const USAGE: &str = "ld: usage: ld replay < SCHEDULE
 ld:        ld exercise --seed N --events M
-ld:        ld node --id N --config TEXT --store FILE --register FILE (--port P | --listen HOST:PORT) (--turns K | --peers N [--idle S] [--turns K]) [--format]
-ld:        ld append --config TEXT --log L --register FILE (--port P | --at TEXT) --rounds K [--limit MS] [--batches] [--move] [--text] < PAYLOADS
+ld:        ld node --id N --config TEXT --store FILE --register FILE (--port P | --listen HOST:PORT) (--turns K | --peers N [--idle S] [--turns K]) [--format] [--quiet]
+ld:        ld append --config TEXT --log L --register FILE (--port P | --at TEXT) --rounds K [--limit MS] [--in-flight W] [--batches] [--move] [--text] < PAYLOADS
 ld:        ld tail --config TEXT --log L --register FILE (--port P | --at TEXT) [--limit MS] --from LSN (--until LSN --rounds K | --follow [--pause MS] [--rounds K]) [--one-copy | --messages] [--text | --json]
 ld:        ld register --config TEXT --log L --register FILE [--from E]
 ld:        ld status --config TEXT --log L --register FILE (--port P | --at TEXT) [--limit MS] [--epochs K]";
@@ -312,9 +312,9 @@ fn word_behind<'a>(words: &'a [String], name: &str) -> &'a str {
 /// How a line of payloads is spelt.
 fn payload_hint(words: &[String]) -> &'static str {
     if words.iter().any(|word| word.as_str() == "--batches") {
-        "a line is 1 to 1,024 messages with commas between them, each an even number of hexadecimal digits 0 to 9 and a to f, or - for none"
+        "a line is 1 to 1,024 messages with commas between them, each an even number of hexadecimal digits 0 to 9 and a to f, or - for none; or trim and a number, as trim e1n5"
     } else {
-        "a payload is an even number of hexadecimal digits 0 to 9 and a to f, or - for none"
+        "a line is a payload, an even number of hexadecimal digits 0 to 9 and a to f, or - for none; or trim and a number, as trim e1n5"
     }
 }
 

@@ -70,6 +70,7 @@ fn perform(rt: &HostRuntime, words: &[String]) -> Status {
         reach: Reach::Above(0),
         limit: 0,
         company: None,
+        quiet: false,
     });
     if are_one_file(rt, &places) {
         let _ = tell_one_file(rt);
@@ -148,7 +149,7 @@ fn call<I: Ready>(
     let Ok(addresses) = addresses_of(alloc, &places.reach) else {
         return Err(ends_early(rt, words, Status::NoMemory));
     };
-    let mut link = Announced::new(rt, listening(&places.listen), person(rt), text);
+    let mut link = Announced::new(rt, listening(&places.listen), person(rt, places), text);
     let Ok(text) = String::from_str(alloc, listening_text(&places.listen)) else {
         return Err(ends_early(rt, words, Status::NoMemory));
     };
@@ -162,7 +163,12 @@ fn call<I: Ready>(
     };
     let idle = Duration::from_secs(u64::from(company.idle));
     let sockets = TcpCrowd::new(rt, alloc, address, company.peers as usize, idle);
-    let mut crowd = AnnouncedCrowd::new(sockets, is_by_port(&places.listen), person(rt), text);
+    let mut crowd = AnnouncedCrowd::new(
+        sockets,
+        is_by_port(&places.listen),
+        watcher(rt, places),
+        text,
+    );
     let mut register = register_of(rt, places.register.as_str())?;
     let dialing = dialing(&places.reach, &addresses);
     let mut nodes = Framed::new(alloc, TcpLink::dialing(rt, dialing, places.limit));
@@ -196,12 +202,22 @@ fn call<I: Ready>(
     Ok((status, failures))
 }
 
-/// Where a person is told what a node does; what reads standard error otherwise finds the status first.
-fn person(rt: &HostRuntime) -> Option<Stderr> {
+/// Where a person is told that a node of one peer after the other listens, unless it is to be quiet; what reads standard
+/// error otherwise finds the status first.
+fn person(rt: &HostRuntime, places: &Places) -> Option<Stderr> {
     if rt.stderr().is_terminal() {
-        Some(rt.stderr())
+        watcher(rt, places)
     } else {
         None
+    }
+}
+
+/// Where it is told what a node of several peers does, a terminal or not, unless it is to be quiet.
+fn watcher(rt: &HostRuntime, places: &Places) -> Option<Stderr> {
+    if places.quiet {
+        None
+    } else {
+        Some(rt.stderr())
     }
 }
 

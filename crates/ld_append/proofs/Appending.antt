@@ -34,7 +34,8 @@ use Rattle.ld_append.specs.Appends.{HasNone, sequencing, IsSettled, AreSteps, En
 use Rattle.ld_clients.specs.declared.client.Client.TheVariants.{Live}
 use Rattle.ld_clients.specs.Names.{each_as}
 use Rattle.ld_clients.specs.Serving.{faded}
-use Rattle.ld_append.proofs.Serving.{know_none, found_only, only_live}
+use Rattle.ld_append.specs.Settled.{only_live}
+use Rattle.ld_append.proofs.Serving.{know_none, found_only}
 use Rattle.ld_append.proofs.Ending.{start_partly}
 use Rattle.ld_rounds.proofs.News.{no_news}
 use Rattle.ld_rounds.proofs.Steps.{activate_is, goes_if}

@@ -1,5 +1,5 @@
 -- The steps of a sequencer.
-use Rattle.std.proofs.Common.{◌≡◌, ℕ, Bool, true, false, List, [], ◌∷◌, ◌++◌, Option, Some, None, refl, ap, ◌∙◌}
+use Rattle.std.proofs.Common.{◌≡◌, ℕ, Bool, true, false, List, [], ◌∷◌, ◌++◌, Option, Some, None, refl, ap, ◌∙◌, nat_lt}
 use Rattle.ld_table.specs.Named.{find_named}
 use Rattle.ld_config.specs.declared.config.Config.{Config}
 use Rattle.ld_schedule.specs.declared.event.Event.TheVariants as events
@@ -12,7 +12,7 @@ use Rattle.ld_msg.specs.Sequencer as sequencer
 use Rattle.ld_msg.specs.Sequencer.{Sequencer, Acts, Appending, released_of, rose}
 use Rattle.ld_machine.specs.Config.{looks_at}
 use Rattle.ld_machine.specs.State.{State, Done, unchanged}
-use Rattle.ld_machine.specs.Step.{happens, numbered_lines, when, acted_lines, acted, on_live, append_done, activates_by, to_sequencer}
+use Rattle.ld_machine.specs.Step.{happens, numbered_lines, when, acted_lines, acted, on_live, append_done, trim_done, activates_by, to_sequencer}
 use Rattle.ld_rounds.specs.Drives.{own_lines}
 use Rattle.ld_rounds.proofs.Clients.{IsClient, client_if, nothing_client, posted_asks}
 use Rattle.ld_rounds.proofs.Steps.{own-append}
@@ -66,6 +66,13 @@ appending_client s name q p sequencer.Numbered = record { nodes = refl; network 
 pub append_client : (c : Config) (s : State) (name p : List ℕ) → IsClient s (happens c s (events.Append name p))
 unfolding happens
 append_client c s name p = live_client s (find_named name s.sequencers) _ (λ q. appending_client s name q p _)
+
+trimming_client : (c : Config) (s : State) (name : List ℕ) (q : Sequencer) (point : ℕ) → IsClient s (trim_done c s name q point)
+trimming_client c s name q point = client_if (nat_lt (released_of q) point) s _ _ (record { nodes = refl; network = refl; own = refl; asks = tt }) (record { nodes = refl; network = refl; own = refl; asks = posted_asks (whos.Sequencer q.epoch) q.log _ refl })
+
+pub trim_client : (c : Config) (s : State) (name : List ℕ) (point : ℕ) → IsClient s (happens c s (events.Trim name point))
+unfolding happens
+trim_client c s name point = live_client s (find_named name s.sequencers) _ (λ q. trimming_client c s name q point)
 
 pub retry_client : (c : Config) (s : State) (name : List ℕ) → IsClient s (happens c s (events.Retry name))
 unfolding happens

@@ -1,5 +1,5 @@
 -- The lines of a call say how the drive ends by it.
-use Rattle.std.proofs.Common.{◌≡◌, ◌≢◌, ℕ, List, [], ◌∷◌, ◌++◌, Option, Some, None, Ok, Err, Bool, refl, ap, sym, ◌∙◌, subst, arith, is_some, IfSome, true, false, if◌then◌else◌}
+use Rattle.std.proofs.Common.{◌≡◌, ◌≢◌, ℕ, List, [], ◌∷◌, ◌++◌, Option, Some, None, Ok, Err, Bool, refl, ap, sym, ◌∙◌, subst, arith, is_some, IfSome, true, false, nat_lt, if◌then◌else◌}
 use Rattle.std.specs.List.{Contains}
 use Rattle.std.specs.declared.result.Result.{Result}
 use Rattle.ld_transcript.specs.declared.line.Line.{Line}
@@ -13,7 +13,7 @@ use Rattle.ld_sequencer.specs.declared.fault.SequencerFault.TheVariants as fault
 use Rattle.ld_sequencer.specs.declared.report.Report.{Report}
 use Rattle.ld_msg.specs.Sequencer as sequencer
 use Rattle.ld_msg.specs.Sequencer.{Appending}
-use Rattle.ld_sequencer.specs.Own.{listed, append_fault}
+use Rattle.ld_sequencer.specs.Own.{listed, append_fault, trim_fault}
 use Rattle.ld_machine.specs.Step.{numbered_lines, when}
 use Rattle.ld_clients.specs.Refusing.{told_lines}
 use Rattle.ld_rounds.specs.declared.ended.Refusal.TheVariants as refusals
@@ -116,6 +116,22 @@ pub append_said : (ls : List Line) (n : ℕ) (a : Appending) (fault : SequencerF
 append_said ls n a fault end f e t =
     let is : end ≡ fault_end (append_fault n a) = e ∙ ap fault_end f in
     subst (λ (x : Option Ended). IfSome x (IsSaid ls)) (sym is) (append_told ls n a (subst (λ (x : Option Ended). IfSome x (IsTold ls)) is t))
+
+-- neither does a trim, which ends nothing
+pub trim_said : (ls : List Line) (released point : ℕ) (fault : SequencerFault) (end : Option Ended) → fault ≡ trim_fault released point → end ≡ fault_end fault → IfSome end (IsSaid ls)
+trim_said ls released point fault end f e = subst (λ (x : Option Ended). IfSome x (IsSaid ls)) (sym (e ∙ ap fault_end f)) (said_if (nat_lt released point))
+  where
+    said_if : (b : Bool) → IfSome (fault_end (if b then faults.PastReleased released else faults.NoMemory)) (IsSaid ls)
+    said_if true = tt
+    said_if false = tt
+
+-- and never finds the window full
+pub trim_full : (name : List ℕ) (released point : ℕ) (fault : SequencerFault) (ls : List Line) → fault ≡ trim_fault released point → ls ≡ lines_by name (Err fault) → false ≡ tells_full ls
+trim_full name released point fault ls f l = sym (ap tells_full (l ∙ ap (λ (x : SequencerFault). lines_by name (Err x)) f) ∙ full_if (nat_lt released point))
+  where
+    full_if : (b : Bool) → tells_full (lines_by name (Err (if b then faults.PastReleased released else faults.NoMemory))) ≡ false
+    full_if true = refl
+    full_if false = refl
 
 -- one refusal alone tells that the window is full
 pub full_lines : (name : List ℕ) (n : ℕ) (a : Appending) (fault : SequencerFault) (b : Bool) (ls : List Line) → fault ≡ append_fault n a → b ≡ is_window fault → ls ≡ lines_by name (Err fault) → b ≡ tells_full ls

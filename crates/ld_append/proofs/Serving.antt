@@ -1,5 +1,5 @@
 -- What each call of a sequencer that is driven does to a state that has it alone.
-use Rattle.std.proofs.Common.{◌==◌, ◌&&◌, arith, option_map, ◌≡◌, ◌≢◌, ◌⊎◌, inl, inr, ℕ, Bool, true, false, not, cond, List, [], ◌∷◌, Option, Some, None, Ok, Err, IfOk, IfErr, IsErrOf, is_some, length, refl, ap, sym, ◌∙◌, subst, if◌then◌else◌}
+use Rattle.std.proofs.Common.{◌==◌, ◌&&◌, ◌≤◌, nat_lt, arith, option_map, ◌≡◌, ◌≢◌, ◌⊎◌, inl, inr, ℕ, Bool, true, false, not, cond, List, [], ◌∷◌, Option, Some, None, Ok, Err, IfOk, IfErr, IsErrOf, is_some, length, refl, ap, sym, ◌∙◌, subst, if◌then◌else◌}
 use Rattle.std.specs.List.{AllByRecursion}
 use Rattle.std.specs.Cmp.Lexicographic.{pointwise}
 use Rattle.std.specs.declared.result.Result.{Result}
@@ -7,9 +7,11 @@ use Rattle.ld_table.specs.Named.{same, find_named, put_named}
 use Rattle.ld_table.proofs.NameLaws.{same-true, same-self, find_named-put_named, find_named-empty}
 use Rattle.ld_config.specs.declared.config.Config.{Config}
 use Rattle.ld_config.specs.Bounds.{IsInBounds}
+use Rattle.ld_ids.specs.Set.{members}
 use Rattle.ld_ids.specs.declared.set.Spec.{Spec}
 use Rattle.ld_schedule.specs.declared.event.Event.TheVariants as events
 use Rattle.ld_transcript.specs.declared.line.Line.{Line}
+use Rattle.ld_msg.specs.declared.msg.Body.TheVariants as bodies
 use Rattle.ld_msg.specs.declared.msg.Msg.{Msg}
 use Rattle.ld_msg.specs.declared.msg.Who.TheVariants as whos
 use Rattle.ld_msg.specs.Register.{Register, is_crowded}
@@ -22,37 +24,40 @@ use Rattle.ld_bounds.proofs.Fewness.{room_there}
 use Rattle.ld_clients.specs.declared.client.Client.{Client}
 use Rattle.ld_clients.specs.declared.client.Client.TheVariants.{Live}
 use Rattle.ld_clients.specs.declared.outcome.Outcome.{Outcome}
-use Rattle.ld_clients.specs.Serving.{faded, Knows, KnowsIn, KnowTheirLogs, HasRoom, GoesOn}
-use Rattle.ld_clients.specs.Names.{each_as}
+use Rattle.ld_clients.specs.Serving.{Knows, KnowsIn, KnowTheirLogs, HasRoom, GoesOn}
 use Rattle.ld_clients.specs.Acting as acting
 use Rattle.ld_clients.specs.Acting.{Stays}
 use Rattle.ld_clients.proofs.Names.{all_put, all_none}
 use Rattle.ld_rounds.specs.News.{is_answer}
 use Rattle.ld_rounds.specs.Drives.{own_lines}
 use Rattle.ld_rounds.specs.Acts.{IsActed}
+use Rattle.ld_rounds.specs.Requests.{request_event}
+use Rattle.ld_rounds.specs.declared.request.Request.{Request}
+use Rattle.ld_rounds.specs.declared.request.Request.TheVariants as asks
 use Rattle.ld_append.specs.Acting.{clients, MayBeWhole, is_to, takes_it, takes, Serves, IsSpecOf, IsUnset}
+use Rattle.ld_append.specs.Settled.{put_first}
 use Rattle.ld_rounds.proofs.Clients.{IsClient}
-use Rattle.ld_append.proofs.Clients.{append_client, retry_client, activate_client, reply_client}
+use Rattle.ld_append.proofs.Clients.{append_client, trim_client, retry_client, activate_client, reply_client}
 use Rattle.ld_lsn.specs.Number.{numbered}
 use Rattle.ld_transcript.specs.declared.line.Line.TheVariants as lines
 use Rattle.ld_msg.specs.Sequencer as sequencer
-use Rattle.ld_msg.specs.Sequencer.{Sequencer, Appending, appending, appended, first_stores, next_esn}
-use Rattle.ld_machine.specs.Step.{on_live, append_done as append_row}
+use Rattle.ld_msg.specs.Sequencer.{Sequencer, Appending, appending, appended, first_stores, next_esn, released_of, to_each}
+use Rattle.ld_machine.specs.Step.{on_live, append_done as append_row, trim_done as trim_row}
 use Rattle.ld_register.specs.Calls.{ended, after_activate, activated as granted}
 use Rattle.ld_register.specs.declared.register.Grant.{Grant}
 use Rattle.ld_register.specs.declared.fault.RegisterFault.TheVariants as registers
 use Rattle.ld_sequencer.specs.declared.fault.SequencerFault.{SequencerFault}
 use Rattle.ld_sequencer.specs.declared.fault.SequencerFault.TheVariants as faults
 use Rattle.ld_sequencer.specs.declared.report.Report.{Report}
-use Rattle.ld_sequencer.specs.Own.{append_fault}
+use Rattle.ld_sequencer.specs.Own.{append_fault, trim_fault}
 use Rattle.ld_sequencer.specs.Whole.{as_now, sent_as}
 use Rattle.ld_clients.specs.Refusing.{fault_lines, told_lines}
 use Rattle.ld_clients.specs.Acting.{IsNamed, HasActed}
 use Rattle.ld_clients.specs.Serving.{shown}
-use Rattle.ld_clients.proofs.Acting.{append_done, append_refused, retry_done, reply_done, retried_goes, replied_goes, appended_goes, unchanged_goes}
+use Rattle.ld_clients.proofs.Acting.{append_done, append_refused, trim_done, trim_refused, retry_done, reply_done, retried_goes, replied_goes, appended_goes, unchanged_goes}
 use Rattle.ld_clients.proofs.Fading.{found_live}
 use Rattle.ld_clients.proofs.Serving.{knows_after, whole_after}
-use Rattle.ld_clients.proofs.Placing.{placed, named, none_as, append_nobody, append_somebody, retry_nobody, retry_somebody, reply_somebody}
+use Rattle.ld_clients.proofs.Placing.{placed, named, none_as, append_nobody, append_somebody, trim_nobody, trim_somebody, retry_nobody, retry_somebody, reply_somebody}
 use Rattle.ld_clients.proofs.Activating.{granted_done, refused_done, know_active, active_whole}
 use Rattle.ld_msg.specs.Register.{Answer, View, Granted, AtLimit, Behind, Overtaken, Fails}
 use Rattle.ld_clients.specs.Serving.{serving_in}
@@ -87,25 +92,12 @@ same_some x y e = cc
 -- ---- a table of one ----
 
 module _ {X : Type 0} where
-  put_first : (name : List ℕ) (k : X) → put_named name k [] ≡ (name, k) ∷ []
-  unfolding put_named
-  put_first name k = refl
-
   pub put_only : (name : List ℕ) (k g : X) → put_named name g ((name, k) ∷ []) ≡ (name, g) ∷ []
   unfolding put_named
   put_only name k g = ap (λ b. if b then (name, g) ∷ [] else (name, k) ∷ (name, g) ∷ []) (same-self name)
 
   pub found_only : (name : List ℕ) (k : X) → find_named name ((name, k) ∷ []) ≡ Some k
   found_only name k = ap (find_named name) (sym (put_first name k)) ∙ (find_named-put_named name name k [] ∙ ap (λ b. cond b (Some k) (find_named name [])) (same-self name))
-
--- where the state has one sequencer alone, and it isn't gone
-pub only_live : (qs : List (List ℕ × Sequencer)) (name : List ℕ) (q : Sequencer) → q.gone ≡ false → each_as faded qs ≡ (name, q) ∷ [] → qs ≡ (name, q) ∷ []
-only_live [] name q g e = absurd cc
-only_live (x ∷ []) name q g e =
-    let h : (x.0, faded x.1) ≡ (name, q) = cc in
-    let s : x.1 ≡ q = same_some x.1 q (found_live (Some x.1) q g (ap (λ (y : List ℕ × Sequencer). Some y.1) h)) in
-    λ i. ((h i).0, s i) ∷ []
-only_live (x ∷ y ∷ qs) name q g e = absurd cc
 
 none_other : (other name : List ℕ) (now : Option Whole) → same other name ≡ false → find_named other (clients name now) ≡ None
 none_other other name None n = find_named-empty other
@@ -153,6 +145,14 @@ append_lines name n sequencer.EpochFull fault f = subst (λ x. lines_by name (Er
 append_lines name n sequencer.WindowFull fault f = subst (λ x. lines_by name (Err x) ≡ fault_lines name x) (sym f) refl
 append_lines name n sequencer.Numbered fault f = subst (λ x. lines_by name (Err x) ≡ fault_lines name x) (sym f) refl
 
+-- neither does a trim
+pub trim_lines : (name : List ℕ) (released point : ℕ) (fault : SequencerFault) → fault ≡ trim_fault released point → lines_by name (Err fault) ≡ fault_lines name fault
+trim_lines name released point fault f = subst (λ x. lines_by name (Err x) ≡ fault_lines name x) (sym f) (lines_if (nat_lt released point))
+  where
+    lines_if : (b : Bool) → lines_by name (Err (if b then faults.PastReleased released else faults.NoMemory)) ≡ fault_lines name (if b then faults.PastReleased released else faults.NoMemory)
+    lines_if true = refl
+    lines_if false = refl
+
 -- ---- what it takes ----
 
 pub takes_none : (c : Config) (s : State) (name : List ℕ) (T : Register → Type 0) (m : Msg) → Serves name None T c s → false ≡ takes name s m
@@ -169,12 +169,24 @@ module _ (c : Config) (s : State) (name : List ℕ) (T : Register → Type 0) wh
   none_appended p o h ls ms = serves_on c s name None o T _
       (stays_told s [] o T _ h.register (append_nobody c s [] h.sequencers name o p (find_named-empty name) ls ms)) (append_client c s name p) (know_none c) tt
 
+  pub none_trimmed : (n : ℕ) (o : Outcome) → Serves name None T c s → o.lines.items ≡ [] → o.sends ≡ [] → IsActed (Serves name None T c) s o.lines.items o.sends (happens c s (events.Trim name n))
+  none_trimmed n o h ls ms = serves_on c s name None o T _
+      (stays_told s [] o T _ h.register (trim_nobody c s [] h.sequencers name o n (find_named-empty name) ls ms)) (trim_client c s name n) (know_none c) tt
+
   pub none_retried : (o : Outcome) → Serves name None T c s → o.lines.items ≡ [] → o.sends ≡ [] → IsActed (Serves name None T c) s o.lines.items o.sends (happens c s (events.Retry name))
   none_retried o h ls ms = serves_on c s name None o T _ (retry_nobody c s [] h.sequencers name o T (find_named-empty name) h.register ls ms) (retry_client c s name) (know_none c) tt
 
-  pub other_appended : (now : Option Whole) (other p : List ℕ) (o : Outcome) → same other name ≡ false → Serves name now T c s → o.lines.items ≡ [] → o.sends ≡ [] → IsActed (Serves name now T c) s o.lines.items o.sends (happens c s (events.Append other p))
+  other_appended : (now : Option Whole) (other p : List ℕ) (o : Outcome) → same other name ≡ false → Serves name now T c s → o.lines.items ≡ [] → o.sends ≡ [] → IsActed (Serves name now T c) s o.lines.items o.sends (happens c s (events.Append other p))
   other_appended now other p o n h ls ms = serves_on c s name now o T _
       (stays_told s (clients name now) o T _ h.register (append_nobody c s (clients name now) h.sequencers other o p (none_other other name now n) ls ms)) (append_client c s other p) h.sequencers.logs h.whole
+
+  other_trimmed : (now : Option Whole) (other : List ℕ) (n : ℕ) (o : Outcome) → same other name ≡ false → Serves name now T c s → o.lines.items ≡ [] → o.sends ≡ [] → IsActed (Serves name now T c) s o.lines.items o.sends (happens c s (events.Trim other n))
+  other_trimmed now other n o e h ls ms = serves_on c s name now o T _
+      (stays_told s (clients name now) o T _ h.register (trim_nobody c s (clients name now) h.sequencers other o n (none_other other name now e) ls ms)) (trim_client c s other n) h.sequencers.logs h.whole
+
+  pub other_requested : (now : Option Whole) (other : List ℕ) (r : Request) (o : Outcome) → same other name ≡ false → Serves name now T c s → o.lines.items ≡ [] → o.sends ≡ [] → IsActed (Serves name now T c) s o.lines.items o.sends (happens c s (request_event other r))
+  other_requested now other (asks.Append p) o n h ls ms = other_appended now other p o n h ls ms
+  other_requested now other (asks.Trim n) o e h ls ms = other_trimmed now other n o e h ls ms
 
   pub other_retried : (now : Option Whole) (other : List ℕ) (o : Outcome) → same other name ≡ false → Serves name now T c s → o.lines.items ≡ [] → o.sends ≡ [] → IsActed (Serves name now T c) s o.lines.items o.sends (happens c s (events.Retry other))
   other_retried now other o n h ls ms = serves_on c s name now o T _
@@ -205,6 +217,19 @@ module _ (c : Config) (s : State) (name : List ℕ) (T : Register → Type 0) wh
         → o.lines.items ≡ fault_lines name fault → o.sends ≡ [] → IsActed (Serves name (Some g) T c) s o.lines.items o.sends (happens c s (events.Append name p))
     not_appended g p fault o e f n ls ms = appended_as g p o (unchanged_goes (Live w) w refl g e)
         (append_refused c s name (Live w) is_named h.whole w refl g p fault o e f n ls ms)
+
+    trimmed_as : (n : ℕ) (o : Outcome) → HasActed s name (Live w) o (Stays s) (on_live s (Some (shown (Live w))) (λ q. trim_row c s name q n)) → IsActed (Serves name (Some w) T c) s o.lines.items o.sends (happens c s (events.Trim name n))
+    trimmed_as n o d = serves_on c s name (Some w) o T _
+        (stays_told s one o T _ h.register (trim_somebody c s one h.sequencers name o n (Live w) (Live w) one (found_only name (Live w)) (sym (put_only name (Live w) (Live w))) d))
+        (trim_client c s name n) h.sequencers.logs h.whole
+
+    pub is_trimmed : (n : ℕ) (own : List ℕ) (o : Outcome) → n ≤ released_of w.sequencer → own ≡ name → o.lines.items ≡ lines.Trimmed own n ∷ [] → o.sends ≡ sent_as w (to_each (bodies.Trim n) (members w.origin.nodes))
+        → IsActed (Serves name (Some w) T c) s o.lines.items o.sends (happens c s (events.Trim name n))
+    is_trimmed n own o l u ls ms = trimmed_as n o (trim_done c s name (Live w) is_named h.whole w refl n own o l u ls ms)
+
+    pub not_trimmed : (n : ℕ) (fault : SequencerFault) (o : Outcome) → fault ≡ trim_fault (released_of w.sequencer) n → (fault ≢ faults.NoMemory) → o.lines.items ≡ fault_lines name fault → o.sends ≡ []
+        → IsActed (Serves name (Some w) T c) s o.lines.items o.sends (happens c s (events.Trim name n))
+    not_trimmed n fault o f x ls ms = trimmed_as n o (trim_refused c s name (Live w) is_named h.whole w refl n fault o f x ls ms)
 
     -- ---- a retry or an answer ----
 

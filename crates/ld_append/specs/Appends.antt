@@ -1,4 +1,4 @@
--- How the drive of a sequencer over payloads ends.
+-- How the drive of a sequencer over payloads and trims ends.
 use Rattle.std.specs.Prelude.{◌⊎◌, ◌≡◌, ◌+◌, ◌<◌, ℕ, List, [], ◌∷◌, Option, None, Bool, true, false}
 use Rattle.std.specs.declared.result.Result.{Result}
 use Rattle.std.specs.declared.result.Result.TheVariants.{Ok, Err}

@@ -1,3 +1,4 @@
 pub mod Acting
 pub mod Appends
 pub mod Refusing
+pub mod Settled

@@ -43,7 +43,7 @@ abbrev pub is_window : SequencerFault → Bool
 is_window faults.WindowFull = true
 is_window _ = false
 
--- a payload that is too long and a full window end nothing
+-- a payload that is too long, a full window and a number above what is released end nothing
 abbrev pub fault_end : SequencerFault → Option Ended
 fault_end (faults.Preempted by) = Some (ends.Preempted by)
 fault_end faults.EpochFull = Some ends.EpochFull

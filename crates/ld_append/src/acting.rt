@@ -3,7 +3,7 @@ ghost use Rattle.std.specs.Prelude.{ℕ, ◌≡◌, ◌==◌, ◌&&◌, ◌≢�
 ghost use Rattle.ld_config.specs.declared.config.Config.{Config as Contents};
 ghost use Rattle.ld_config.specs.Bounds.{IsInBounds};
 ghost use Rattle.ld_register.specs.Bounds.{IsSpec};
-ghost use Rattle.ld_schedule.specs.declared.event.Event.TheVariants.{Activate, Append, Retry};
+ghost use Rattle.ld_schedule.specs.declared.event.Event.TheVariants.{Activate, Append, Retry, Trim};
 ghost use Rattle.ld_machine.specs.State.{State};
 ghost use Rattle.ld_machine.specs.Step.{happens};
 ghost use Rattle.ld_bounds.specs.Sound.{IsSound};
@@ -18,9 +18,10 @@ ghost use Rattle.ld_append.specs.Appends.{IsRefused};
 use crate::refusing::{heard, is_window};
 use ld_config::Config;
 use ld_ids::{LogId, Name, NoMemory, Payload, Spec};
+use ld_lsn::Lsn;
 use ld_msg::{Msg, Outbox, Who};
 use ld_register::{Register, RegisterFault};
-use ld_rounds::{Actor, Appended, Appends, Ended, Heard, Refusal};
+use ld_rounds::{Actor, Appended, Appends, Ended, Heard, Refusal, Request};
 use ld_sequencer::{Sequencer, SequencerFault};
 use ld_transcript::Line;
 use std::alloc::Global;
@@ -245,6 +246,44 @@ impl<G: Register> Acting<G> {
         }
     }
 
+    /// Tells all nodes of the configuration that all up to the number may go, or writes why not.
+    fn trim(&self, alloc: Global, point: Lsn) -> Result<Appended, NoMemory>
+        ensures trimmed { IfOk result (λ appended. (c : Contents) (s : State) → Serves self.now.name self.now.sequencer (G.tells self.now.register) c s
+            → IsActed (Serves self.now.name self.now.sequencer (G.tells self.now.register) c) s appended.heard.lines.items appended.heard.sends (happens c s (Trim self.now.name point))) }
+        ensures messages { IfOk result (λ appended. AreMessages appended.heard.sends) }
+        ensures full { IfOk result (λ appended. appended.is_full ≡ tells_full appended.heard.lines.items) }
+        ensures said { IfOk result (λ appended. IfSome appended.heard.end (IsSaid appended.heard.lines.items)) }
+        ensures ends { IfOk result (λ appended. appended.heard.end ≡ None → tells_by is_final appended.heard.lines.items ≡ false) }
+    {
+        let Some(sequencer) = &self.sequencer else {
+            return Ok(Appended {
+                heard: nothing(alloc),
+                is_full: false,
+            });
+        };
+        let mut sends = Outbox::empty(alloc);
+        match sequencer.trim(point, &mut sends) {
+            Ok(()) => {
+                let line = Line::Trimmed {
+                    name: self.name.copy(alloc)?,
+                    point,
+                };
+                let heard = with_line(alloc, line, sends)?;
+                Ok(Appended {
+                    heard,
+                    is_full: false,
+                })
+            }
+            Err(fault) => {
+                let heard = heard(alloc, &self.name, Err(fault), sends)?;
+                Ok(Appended {
+                    heard,
+                    is_full: false,
+                })
+            }
+        }
+    }
+
     /// Sends again what is still wanted, looks again where no look succeeded at an epoch whose nodes have told all that they
     /// can, and tries its close again.
     fn again(&mut self, alloc: Global) -> Result<Heard, NoMemory>
@@ -377,13 +416,17 @@ impl<G: Register> Actor for Acting<G> {
 }
 
 impl<G: Register> Appends for Acting<G> {
+    ghost use Rattle.ld_append.specs.Settled.{settled_so};
+
     ghost settled = { λ a. settled_in a.sequencer };
+
+    ghost settled_there = { λ a c s name h settled. settled_so c s a.name a.sequencer (G.tells a.register) name h settled };
 
     fn append(
         &mut self,
         alloc: Global,
         name: &Name,
-        payload: &Payload,
+        request: &Request,
     ) -> Result<Appended, NoMemory> {
         if *name != self.name {
             return Ok(Appended {
@@ -391,7 +434,10 @@ impl<G: Register> Appends for Acting<G> {
                 is_full: false,
             });
         }
-        self.add(alloc, payload)
+        match request {
+            Request::Append(payload) => self.add(alloc, payload),
+            Request::Trim(point) => self.trim(alloc, *point),
+        }
     }
 
     fn retry(&mut self, alloc: Global, name: &Name) -> Result<Heard, NoMemory> {

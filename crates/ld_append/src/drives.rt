@@ -1,4 +1,4 @@
-// A sequencer is activated, and driven over payloads.
+// A sequencer is activated, and driven over payloads and trims.
 ghost use Rattle.std.specs.Prelude.{◌≡◌, ◌⊎◌, ℕ, Option, true, false, None, IfErr, OnOk, Some};
 ghost use Rattle.ld_config.specs.Bounds.{IsInBounds};
 ghost use Rattle.ld_schedule.specs.declared.event.Event.TheVariants.{Activate};
@@ -59,6 +59,7 @@ fn drive<G: Register, N: Nodes, P: Payloads, O: Sink>(
     spec: &Spec,
     name: &Name,
     rounds: u64,
+    in_flight: u32,
     acting: &mut Acting<G>,
     nodes: &mut N,
     input: &mut P,
@@ -76,7 +77,7 @@ fn drive<G: Register, N: Nodes, P: Payloads, O: Sink>(
     ensures ended { N.off nodes.old ≡ None → EndsOff (N.off nodes.new) result }
     ensures refused { acting.old.end ≡ None → IfErr result (IsRefused (λ place. G.told acting.old.register → G.damaged acting.old.register place) (G.told acting.old.register → HoldsSome (G.holds acting.old.register) × LacksRoom (G.holds acting.new.register)) (G.faults acting.old.register) (G.faults acting.new.register)) }
 {
-    let Ok(mut queues) = Queues::new(alloc) else {
+    let Ok(mut queues) = Queues::new(alloc, in_flight) else {
         return Err(Ended::NoMemory);
     };
     start(alloc, config, spec, acting, &mut queues, out)?;
@@ -94,9 +95,11 @@ fn drive<G: Register, N: Nodes, P: Payloads, O: Sink>(
     round_end(acting.end(), driven)
 }
 
-/// Appends payloads to a log: a new sequencer of the name is activated, of the log's next epoch with the nodes, factor and
-/// extras of `spec`, and so many rounds over the configuration's nodes are driven, in each of which payloads are appended. Its
-/// lines are written as they come. The register is given back.
+/// Appends payloads to a log, and trims it: a new sequencer of the name is activated, of the log's next epoch with the nodes,
+/// factor and extras of `spec`, and so many rounds over the configuration's nodes are driven, in each of which payloads are
+/// appended. A trim waits until every append before it is acknowledged and every epoch before the sequencer's own is closed, and
+/// is sent to each node of the configuration once: one that can't be reached then isn't told of it. A visit of a node sends up to
+/// `in_flight` messages, 1 to 128, before it takes their answers. Its lines are written as they come. The register is given back.
 ///
 /// It ends with `Done` where the input has ended, every append is acknowledged, every epoch before its own is closed and no
 /// message waits, with `Rounds` where all rounds were taken and it isn't done, and with `LogLimit` where the register holds as
@@ -111,6 +114,7 @@ pub fn append<G: Register, N: Nodes, P: Payloads, O: Sink>(
     spec: &Spec,
     name: Name,
     rounds: u64,
+    in_flight: u32,
     register: G,
     nodes: &mut N,
     input: &mut P,
@@ -118,11 +122,13 @@ pub fn append<G: Register, N: Nodes, P: Payloads, O: Sink>(
 ) -> (Ended, G)
     requires { IsSpec spec.now }
     // Where the nodes and the register tell what stands there: all that was done are steps of the written machine from any state
-    // without sequencers, and with nothing else set for the log's next activation, that they represent: the activation of the log, and then round by round what is sent again, but in the
-    // first, appends, and visits of the configuration's nodes. The payloads that the machine took are the first ones that came,
-    // in their order; they are all where it is done, and where it comes to a line with a syntax error. The lines that were written are
-    // the sequencer's lines of those steps. A message to a node is lost only where a call of the nodes failed or a node had
-    // ended, and an answer only where the sequencer doesn't take it. It never ends with `BadFrame`.
+    // without sequencers, and with nothing else set for the log's next activation, that they represent: the activation of the
+    // log, and then round by round what is sent again, but in the first, appends and trims, and visits of the configuration's
+    // nodes. A trim is made only where the sequencer has every append acknowledged and every epoch before its own closed. The
+    // requests that the machine took are the first ones that came, in their order; they are all where it is done, and where it
+    // comes to a line with a syntax error. The lines that were written are the sequencer's lines of those steps. A message to a
+    // node is lost only where a call of the nodes failed or a node had ended, and an answer only where the sequencer doesn't take
+    // it. It never ends with `BadFrame`.
     ensures appended { (s : State) (far : Far) → IsInBounds config.now → IsSpecOf config.now spec.now → IsUnset config.now s spec.now → N.tells nodes.old config.now far → Begins (HasNone (G.tells register)) config.now s far
         → (N.silent nodes.new ≡ true) ⊎ IsAppended name spec.now.log (IsBroken (N.faults nodes.old) (N.faults nodes.new) (N.endings nodes.old) (N.endings nodes.new)) (P.coming input.old) rounds (N.tells nodes.new) (G.tells result.1) config.now s (Some (O.written out.old)) (Some (O.written out.new)) result.0 }
     // The register is the same one. Where it tells what it holds it does so then, and it may hold as many other logs as may be
@@ -149,6 +155,7 @@ pub fn append<G: Register, N: Nodes, P: Payloads, O: Sink>(
         spec,
         &name,
         rounds,
+        in_flight,
         &mut acting,
         nodes,
         input,

@@ -1,11 +1,14 @@
--- The payloads of an input, a line at a time.
-use Rattle.std.proofs.Common.{◌≡◌, ◌≢◌, inl, inr, ◌≤◌, ◌<◌, ◌+◌, ◌&&◌, nat_le, ℕ, Bool, true, false, List, [], ◌∷◌, ◌++◌, length, Option, None, Some, Ok, Err, refl, sym, ap, ◌∙◌, subst, arith, if◌then◌else◌, append_assoc, suc, map, ◌==◌}
+-- The payloads and trims of an input, a line at a time.
+use Rattle.std.proofs.Common.{◌≡◌, ◌≢◌, inl, inr, ◌≤◌, ◌<◌, ◌+◌, ◌&&◌, nat_le, ℕ, Bool, true, false, List, [], ◌∷◌, ◌++◌, length, Option, None, Some, Ok, Err, refl, sym, ap, ◌∙◌, subst, arith, if◌then◌else◌, append_assoc, suc, map, ◌==◌, ◌^◌, nat_lt, take, drop, decimal}
 use Rattle.std.specs.Prelude.{Result, IfSome}
 use Rattle.std.specs.Io.KnownBytes.{prepend_known, Consumes, IsAtEnd}
-use Rattle.std.proofs.lemmas.Bool.{ne_eqb, le-leb, cases_eq}
+use Rattle.std.proofs.lemmas.Bool.{ne_eqb, le-leb, lt-ltb, ltb-true, cases_eq}
 use Rattle.std.proofs.lemmas.Bool.Decides.{nat_tests}
 use Rattle.std.specs.List.{All}
-use Rattle.std.proofs.lemmas.List.{append-nil, length-append}
+use Rattle.std.specs.Str.Parse.{AllDigits, digits_value}
+use Rattle.std.proofs.lemmas.Str.Parse.{IsNumeralModel, numerals_by_value, tells_digits}
+use Rattle.std.proofs.lemmas.Fmt.{digits_value-decimal}
+use Rattle.std.proofs.lemmas.List.{append-nil, length-append, take-append-drop}
 use Rattle.std.proofs.lemmas.List.Elements.{All-nil, All-cons, All-head, All-tail}
 use Rattle.hex.specs.Hex.{decode_of}
 use Rattle.hex.specs.declared.error.FromHexError.{FromHexError}
@@ -14,17 +17,21 @@ use Rattle.ld_io.specs.Memory.{is_listed}
 use Rattle.ld_table.specs.Named.{same}
 use Rattle.ld_table.proofs.NameLaws.{same-true, same-self}
 use Rattle.ld_lsn.specs.Text.{Lacks}
+use Rattle.ld_lsn.specs.Number.{epoch_of, esn_of, pair_text, lsn_text}
+use Rattle.ld_lsn.proofs.Texts.{decimal_lacks}
 use Rattle.ld_ids.specs.Bytes.{AreBytes, hex_text}
 use Rattle.ld_batch.specs.Batch.{batch_limit}
 use Rattle.ld_schedule.specs.Grammar.{IsBatch, messages_text}
 use Rattle.ld_schedule.proofs.MessageLists.{payload_comma}
 use Rattle.ld_schedule.specs.WordLaws.{no_bytes}
-use Rattle.ld_rounds.specs.Lines.{longest, ended, IsMisspelt, IsOffPayload}
+use Rattle.ld_rounds.specs.Lines.{longest, ended, trim_word, trim_text, IsNoTrim, IsOffTrim, IsOffPayload, IsMisspelt, IsOffRequest}
 use Rattle.ld_rounds.specs.Input.{Input, all_taken, Gives}
 use Rattle.ld_rounds.specs.Input as inputs
 use Rattle.ld_rounds.specs.declared.payloads.InputFault.{InputFault}
 use Rattle.ld_rounds.specs.declared.payloads.InputFault.TheVariants as faults
-use Rattle.ld_cli.specs.Payloads.{batch_payload, IsBatchLine, Spells, IsUnspelt, decoded, bytes_in, single_in, parts_from, messages_in, batch_in, payload_in, counted, cut_at, with_line, input_from, input_after, line_ready, payloads_in}
+use Rattle.ld_rounds.specs.declared.request.Request.{Request}
+use Rattle.ld_rounds.specs.declared.request.Request.TheVariants as asks
+use Rattle.ld_cli.specs.Payloads.{batch_payload, IsBatchLine, SpellsPayload, Spells, IsUnspelt, halves_from, numbered_by, point_in, trim_in, append_of, request_in, decoded, bytes_in, single_in, parts_from, messages_in, batch_in, payload_in, counted, cut_at, with_line, input_from, input_after, line_ready, payloads_in}
 
 -- ---- a line ----
 
@@ -132,21 +139,100 @@ batch_none line none =
 
 -- ---- a line of either kind ----
 
-spells : (batches : Bool) (line payload : List ℕ) → length line ≤ longest → Spells batches line payload → payload_in batches line ≡ Some payload
-spells false line payload short text = spells_single line payload short text.is text.can
-spells true line payload short text = spells_batch line payload short text
+spells_payload : (batches : Bool) (line payload : List ℕ) → length line ≤ longest → SpellsPayload batches line payload → payload_in batches line ≡ Some payload
+spells_payload false line payload short text = spells_single line payload short text.is text.can
+spells_payload true line payload short text = spells_batch line payload short text
 
-spells_none : (batches : Bool) (line : List ℕ) (place : ℕ) → IsMisspelt batches line place → payload_in batches line ≡ None
-spells_none false line place off = single_none line off.none
-spells_none true line place off = batch_none line off.none
+payload_none : (batches : Bool) (line : List ℕ) (place : ℕ) → IsOffPayload batches line place → payload_in batches line ≡ None
+payload_none false line place off = single_none line off.none
+payload_none true line place off = batch_none line off.none
+
+-- ---- a trim ----
+
+halves_front : (seen front rest : List ℕ) → Lacks 110 front → halves_from seen (front ++ 110 ∷ rest) ≡ (seen ++ front, rest)
+halves_front seen [] rest lacks = ap (λ (l : List ℕ). (l, rest)) (sym (append-nil seen))
+halves_front seen (b ∷ front) rest lacks =
+    ap (λ (x : Bool). if x then (seen, front ++ 110 ∷ rest) else halves_from (seen ++ b ∷ []) (front ++ 110 ∷ rest)) (ne_eqb b 110 lacks.0)
+    ∙ (halves_front (seen ++ b ∷ []) front rest lacks.1 ∙ ap (λ (l : List ℕ). (l, rest)) (append_assoc seen (b ∷ []) front))
+
+numerals : IsNumeralModel (AllDigits 10) (digits_value 10)
+numerals = numerals_by_value (AllDigits 10) tells_digits
+
+-- the text of a number is read as it
+point_of_text : (point : ℕ) → point < 2 ^ 64 → point_in (lsn_text point) ≡ point
+unfolding pair_text
+point_of_text point small =
+    let x : ℕ = epoch_of point in
+    let y : ℕ = esn_of point in
+    let parts = halves_front [] (decimal x) (decimal y) (decimal_lacks 110 x (inr (omega arith)) (omega (arith, small))) in
+    let high : digits_value 10 (decimal x) ≡ x = digits_value-decimal numerals x (omega (arith, small)) in
+    let low : digits_value 10 (decimal y) ≡ y = digits_value-decimal numerals y (omega arith) in
+    ap numbered_by parts ∙ omega (arith, high, low)
+
+begins_trim : (line behind : List ℕ) → line ≡ trim_word ++ behind → same (take 5 line) trim_word ≡ true
+begins_trim line behind e = ap (λ (l : List ℕ). same (take 5 l) trim_word) e ∙ same-self trim_word
+
+no_trim_by : (b : Bool) (line : List ℕ) → same (take 5 line) trim_word ≡ b → IsNoTrim line → b ≡ false
+no_trim_by false line e none = refl
+no_trim_by true line e none = absurd (none (drop 5 line) (sym (take-append-drop 5 line) ∙ ap (λ (l : List ℕ). l ++ drop 5 line) (same-true (take 5 line) trim_word e)))
+
+no_trim : (batches : Bool) (line : List ℕ) → IsNoTrim line → request_in batches line ≡ append_of (payload_in batches line)
+no_trim batches line none = ap (λ (b : Bool). if b then trim_in line else append_of (payload_in batches line)) (no_trim_by (same (take 5 line) trim_word) line refl none)
+
+is_trim : (batches : Bool) (line behind : List ℕ) → line ≡ trim_word ++ behind → request_in batches line ≡ trim_in line
+is_trim batches line behind e = ap (λ (b : Bool). if b then trim_in line else append_of (payload_in batches line)) (begins_trim line behind e)
+
+spells_trim : (line : List ℕ) (point : ℕ) → length line ≤ longest → point < 2 ^ 64 → line ≡ trim_text point → trim_in line ≡ Some (asks.Trim point)
+spells_trim line point short small is =
+    let rest : drop 5 line ≡ lsn_text point = ap (drop 5) is in
+    let p : point_in (drop 5 line) ≡ point = ap point_in rest ∙ point_of_text point small in
+    let below : nat_lt (point_in (drop 5 line)) (2 ^ 64) ≡ true = ap (λ (n : ℕ). nat_lt n (2 ^ 64)) p ∙ lt-ltb point (2 ^ 64) small in
+    let s : same (drop 5 line) (lsn_text (point_in (drop 5 line))) ≡ true = ap (λ (n : ℕ). same (drop 5 line) (lsn_text n)) p ∙ (ap (same (drop 5 line)) (sym rest) ∙ same-self (drop 5 line)) in
+    let whole = both_true (nat_le (length line) longest) (nat_lt (point_in (drop 5 line)) (2 ^ 64) && same (drop 5 line) (lsn_text (point_in (drop 5 line)))) (le-leb (length line) longest short)
+    (both_true (nat_lt (point_in (drop 5 line)) (2 ^ 64)) (same (drop 5 line) (lsn_text (point_in (drop 5 line)))) below s) in
+    ap (λ (x : Bool). if x then Some (asks.Trim (point_in (drop 5 line))) else None) whole ∙ ap (λ (n : ℕ). Some (asks.Trim n)) p
+
+off_trim_by : (below s : Bool) (line behind : List ℕ) → drop 5 line ≡ behind → nat_lt (point_in (drop 5 line)) (2 ^ 64) ≡ below → same (drop 5 line) (lsn_text (point_in (drop 5 line))) ≡ s
+    → ((point : ℕ) → point < 2 ^ 64 → behind ≢ lsn_text point) → (below && s) ≡ false
+off_trim_by false s line behind d e f none = refl
+off_trim_by true false line behind d e f none = refl
+off_trim_by true true line behind d e f none =
+    let small : point_in (drop 5 line) < 2 ^ 64 = ltb-true (point_in (drop 5 line)) (2 ^ 64) e in
+    absurd (none (point_in (drop 5 line)) small (sym d ∙ same-true (drop 5 line) (lsn_text (point_in (drop 5 line))) f))
+
+trim_none : (line : List ℕ) (place : ℕ) → IsOffTrim line place → trim_in line ≡ None
+trim_none line place off =
+    ap (λ (b : Bool). if b then Some (asks.Trim (point_in (drop 5 line))) else None)
+    (and_false (nat_le (length line) longest) (nat_lt (point_in (drop 5 line)) (2 ^ 64) && same (drop 5 line) (lsn_text (point_in (drop 5 line))))
+    (off_trim_by (nat_lt (point_in (drop 5 line)) (2 ^ 64)) (same (drop 5 line) (lsn_text (point_in (drop 5 line)))) line off.behind (ap (drop 5) off.begins) refl refl off.none))
+
+-- ---- what a line asks for ----
+
+spells : (batches : Bool) (line : List ℕ) (request : Request) → length line ≤ longest → Spells batches line request → request_in batches line ≡ Some request
+spells batches line (asks.Append payload) short text = no_trim batches line text.0 ∙ ap append_of (spells_payload batches line payload short text.1)
+spells batches line (asks.Trim point) short text = is_trim batches line (lsn_text point) text.1 ∙ spells_trim line point short text.0 text.1
+
+spells_none : (batches : Bool) (line : List ℕ) (place : ℕ) → IsMisspelt batches line place → request_in batches line ≡ None
+spells_none batches line place (inl off) = is_trim batches line off.behind off.begins ∙ trim_none line place off
+spells_none batches line place (inr off) = no_trim batches line off.0 ∙ ap append_of (payload_none batches line place off.1)
 
 not_short : (n : ℕ) → longest < n → nat_le n longest ≡ false
 not_short n l = grind (arith, nat_tests)
 
-too_long : (batches : Bool) (line : List ℕ) → longest < length line → payload_in batches line ≡ None
-too_long false line l = ap (λ (b : Bool). if b && same line (hex_text (bytes_in line)) then Some (bytes_in line) else None) (not_short (length line) l)
-too_long true line l =
+too_long_payload : (batches : Bool) (line : List ℕ) → longest < length line → payload_in batches line ≡ None
+too_long_payload false line l = ap (λ (b : Bool). if b && same line (hex_text (bytes_in line)) then Some (bytes_in line) else None) (not_short (length line) l)
+too_long_payload true line l =
     ap (λ (b : Bool). if b && (nat_le (length (messages_in line)) batch_limit && same line (messages_text (messages_in line))) then Some (batch_payload (messages_in line)) else None) (not_short (length line) l)
+
+if_none : (b : Bool) (x y : Option Request) → x ≡ None → y ≡ None → (if b then x else y) ≡ None
+if_none true x y h k = h
+if_none false x y h k = k
+
+too_long : (batches : Bool) (line : List ℕ) → longest < length line → request_in batches line ≡ None
+too_long batches line l =
+    if_none (same (take 5 line) trim_word) (trim_in line) (append_of (payload_in batches line))
+    (ap (λ (b : Bool). if b && (nat_lt (point_in (drop 5 line)) (2 ^ 64) && same (drop 5 line) (lsn_text (point_in (drop 5 line)))) then Some (asks.Trim (point_in (drop 5 line))) else None) (not_short (length line) l))
+    (ap append_of (too_long_payload batches line l))
 
 -- ---- bytes ----
 
@@ -156,10 +242,10 @@ module _ (batches : Bool) where
   unfolding input_from
   scan_front number seen [] rest one = ap (λ l. input_from batches number l rest) (sym (append-nil seen))
   scan_front number seen (b ∷ line) rest one =
-      ap (λ (x : Bool). if x then with_line batches number seen (line ++ rest) (payload_in batches seen) (input_from batches (counted number) [] (line ++ rest)) else input_from batches number (seen ++ b ∷ []) (line ++ rest)) (ne_eqb b 10 one.0)
+      ap (λ (x : Bool). if x then with_line batches number seen (line ++ rest) (request_in batches seen) (input_from batches (counted number) [] (line ++ rest)) else input_from batches number (seen ++ b ∷ []) (line ++ rest)) (ne_eqb b 10 one.0)
       ∙ (scan_front number (seen ++ b ∷ []) line rest one.1 ∙ ap (λ l. input_from batches number l rest) (append_assoc seen (b ∷ []) line))
 
-  scan_line : (number : ℕ) (line rest : List ℕ) → Lacks 10 line → input_from batches number [] (ended line ++ rest) ≡ with_line batches number line rest (payload_in batches line) (input_from batches (counted number) [] rest)
+  scan_line : (number : ℕ) (line rest : List ℕ) → Lacks 10 line → input_from batches number [] (ended line ++ rest) ≡ with_line batches number line rest (request_in batches line) (input_from batches (counted number) [] rest)
   unfolding input_from
   scan_line number line rest one = ap (input_from batches number []) (append_assoc line (10 ∷ []) rest) ∙ scan_front number [] line (10 ∷ rest) one
 
@@ -167,16 +253,16 @@ module _ (batches : Bool) where
   unfolding input_from
   scan_cut number line one = ap (input_from batches number []) (sym (append-nil line)) ∙ scan_front number [] line [] one
 
-  -- nothing is a payload any more, and the bytes are from the line of this number on
+  -- nothing is asked for any more, and the bytes are from the line of this number on
   pub record IsStuck (number : ℕ) (bytes : List ℕ) (input : Input) : Type 0 where
-    pub none : input.payloads ≡ []
+    pub none : input.requests ≡ []
     pub off : input.off ≡ Some (record { number = number; bytes = bytes; batches = batches })
 
   stuck_cut : (number : ℕ) (line : List ℕ) → 0 < length line → IsStuck number line (cut_at batches number line)
   stuck_cut number [] l = absurd (omega arith)
   stuck_cut number (b ∷ line) l = record { none = refl; off = refl }
 
-  stuck_line : (number : ℕ) (line rest : List ℕ) (o : Option (List ℕ)) (input : Input) → o ≡ None → IsStuck number (line ++ 10 ∷ rest) (with_line batches number line rest o input)
+  stuck_line : (number : ℕ) (line rest : List ℕ) (o : Option Request) (input : Input) → o ≡ None → IsStuck number (line ++ 10 ∷ rest) (with_line batches number line rest o input)
   stuck_line number line rest None input e = record { none = refl; off = refl }
   stuck_line number line rest (Some p) input e = absurd cc
 
@@ -191,42 +277,42 @@ module _ (batches : Bool) where
   unfolding input_from
   scan_long number seen [] l = stuck_as number number seen (seen ++ []) (cut_at batches number seen) refl (sym (append-nil seen)) (stuck_cut number seen (omega (arith, l)))
   scan_long number seen (b ∷ rest) l = elim (cases_eq b 10) [
-    | inl e ↦ subst (λ (x : ℕ). IsStuck number (seen ++ x ∷ rest) (input_from batches number seen (x ∷ rest))) (sym e) (stuck_line number seen rest (payload_in batches seen) (input_from batches (counted number) [] rest) (too_long batches seen l))
+    | inl e ↦ subst (λ (x : ℕ). IsStuck number (seen ++ x ∷ rest) (input_from batches number seen (x ∷ rest))) (sym e) (stuck_line number seen rest (request_in batches seen) (input_from batches (counted number) [] rest) (too_long batches seen l))
     | inr n ↦
         let longer : longest < length (seen ++ b ∷ []) = omega (arith, l, length-append seen (b ∷ [])) in
         let next : input_from batches number seen (b ∷ rest) ≡ input_from batches number (seen ++ b ∷ []) rest =
-        ap (λ (x : Bool). if x then with_line batches number seen rest (payload_in batches seen) (input_from batches (counted number) [] rest) else input_from batches number (seen ++ b ∷ []) rest) (ne_eqb b 10 n) in
+        ap (λ (x : Bool). if x then with_line batches number seen rest (request_in batches seen) (input_from batches (counted number) [] rest) else input_from batches number (seen ++ b ∷ []) rest) (ne_eqb b 10 n) in
         subst (λ (x : Input). IsStuck number (seen ++ b ∷ rest) x) (sym next) (stuck_as number number ((seen ++ b ∷ []) ++ rest) (seen ++ b ∷ rest) (input_from batches number (seen ++ b ∷ []) rest) refl (append_assoc seen (b ∷ []) rest) (scan_long number (seen ++ b ∷ []) rest longer))
   ]
 
 -- ---- what each line gives ----
 
-off_by : (batches : Bool) (number place : ℕ) (bytes : List ℕ) (input : Input) → IsStuck batches number bytes input → IsOffPayload batches bytes place → inputs.IsOff input number place
+off_by : (batches : Bool) (number place : ℕ) (bytes : List ℕ) (input : Input) → IsStuck batches number bytes input → IsOffRequest batches bytes place → inputs.IsOff input number place
 off_by batches number place bytes input s off = record { none = s.none; off = record { rest = bytes; batches = batches; off = s.off; at = off } }
 
 some_of : (x front y : List ℕ) → x ≡ front ++ y → 1 ≤ length front → 1 ≤ length x
 some_of x front y taken some = omega (arith, ap length taken, length-append front y)
 
 module _ (batches : Bool) (k number : ℕ) (count : number ≡ counted k) (line : List ℕ) (one : Lacks 10 line) where
-  pub payload_gives : (a b : Option (List ℕ)) (payload : List ℕ) → length line ≤ longest → Consumes a b (ended line) → Spells batches line payload → Gives (input_after batches k a) (input_after batches number b) (Ok (Some payload))
-  payload_gives None b payload short taken text = tt
-  payload_gives (Some x) None payload short taken text = absurd taken
-  payload_gives (Some x) (Some y) payload short taken text =
+  pub request_gives : (a b : Option (List ℕ)) (request : Request) → length line ≤ longest → Consumes a b (ended line) → Spells batches line request → Gives (input_after batches k a) (input_after batches number b) (Ok (Some request))
+  request_gives None b request short taken text = tt
+  request_gives (Some x) None request short taken text = absurd taken
+  request_gives (Some x) (Some y) request short taken text =
       let rest : Input = input_from batches (counted (counted k)) [] y in
-      let whole : input_from batches (counted k) [] x ≡ record { payloads = payload ∷ rest.payloads; off = rest.off } =
-      ap (input_from batches (counted k) []) taken ∙ (scan_line batches (counted k) line y one ∙ ap (λ o. with_line batches (counted k) line y o rest) (spells batches line payload short text)) in
+      let whole : input_from batches (counted k) [] x ≡ record { requests = request ∷ rest.requests; off = rest.off } =
+      ap (input_from batches (counted k) []) taken ∙ (scan_line batches (counted k) line y one ∙ ap (λ o. with_line batches (counted k) line y o rest) (spells batches line request short text)) in
       record {
-        rest = rest.payloads;
-        first = ap (λ (i : Input). i.payloads) whole;
-        left = ap (λ n. Some (input_from batches (counted n) [] y)) count ∙ ap (λ o. Some (record { payloads = rest.payloads; off = o })) (sym (ap (λ (i : Input). i.off) whole));
+        rest = rest.requests;
+        first = ap (λ (i : Input). i.requests) whole;
+        left = ap (λ n. Some (input_from batches (counted n) [] y)) count ∙ ap (λ o. Some (record { requests = rest.requests; off = o })) (sym (ap (λ (i : Input). i.off) whole));
       }
 
   unspelt_off : (x y : List ℕ) (place : ℕ) → length line ≤ longest → x ≡ ended line ++ y → IsMisspelt batches line place → inputs.IsOff (input_from batches (counted k) [] x) number place
   unspelt_off x y place short taken off =
       let input : Input = input_from batches (counted k) [] x in
-      let whole : input ≡ with_line batches (counted k) line y (payload_in batches line) (input_from batches (counted (counted k)) [] y) = ap (input_from batches (counted k) []) taken ∙ scan_line batches (counted k) line y one in
+      let whole : input ≡ with_line batches (counted k) line y (request_in batches line) (input_from batches (counted (counted k)) [] y) = ap (input_from batches (counted k) []) taken ∙ scan_line batches (counted k) line y one in
       let stuck : IsStuck batches (counted k) (line ++ 10 ∷ y) input =
-      subst (λ (i : Input). IsStuck batches (counted k) (line ++ 10 ∷ y) i) (sym whole) (stuck_line batches (counted k) line y (payload_in batches line) (input_from batches (counted (counted k)) [] y) (spells_none batches line place off)) in
+      subst (λ (i : Input). IsStuck batches (counted k) (line ++ 10 ∷ y) i) (sym whole) (stuck_line batches (counted k) line y (request_in batches line) (input_from batches (counted (counted k)) [] y) (spells_none batches line place off)) in
       let bytes : line ++ 10 ∷ y ≡ x = sym (taken ∙ append_assoc line (10 ∷ []) y) in
       off_by batches number place x input (stuck_as batches (counted k) number (line ++ 10 ∷ y) x input (sym count) bytes stuck)
       (record { some = some_of x (ended line) y taken (omega (arith, length-append line (10 ∷ []))); off = inr (inr (record { line = line; rest = y; begins = record { splits = taken; one = one; short = short }; off = off })) })

@@ -11,6 +11,7 @@ use Rattle.ld_safety.proofs.LossAsked.{losses_were_asked}
 use Rattle.ld_safety.proofs.OneCopy.{one_node_sends}
 use Rattle.ld_safety.proofs.Traces.{lines_are_the_steps}
 use Rattle.ld_calm.proofs.InRun.{calm_ends, calm_is_bounded}
+use Rattle.ld_served.proofs.Serves.{calm_serves}
 use Rattle.ld_cli.specs.Ends.{IsSafe}
 
 pub run_is_safe : (c : Config) → IsInBounds c → (events : List Event) → IsSafe c events
@@ -24,5 +25,5 @@ run_is_safe c b events =
           record { ballot = h.ballot; plan = h.plan; there = h.there; says = h.says; gone = losses_were_gone c before d.log (home_epoch number) h.ballot h.plan h.there h.says; moment = h.moment };
       confirmed = λ name number before gives after d whole there given confirms at. losses_were_asked c name number before gives d there given confirms at;
       sent = one_node_sends c (moves c events);
-      calms = λ before after whole. let k = calm_ends c before b in record { whole = k.0; few = k.1; told = calm_is_bounded c before b };
+      calms = λ before after whole. let k = calm_ends c before b in record { whole = k.0; few = k.1; told = calm_is_bounded c before b; served = calm_serves c before b };
     }

@@ -10,9 +10,9 @@ use Rattle.ld_lsn.specs.Number.{home_epoch}
 use Rattle.ld_transcript.specs.declared.line.Line.TheVariants as lines
 use Rattle.ld_transcript.specs.declared.line.GapKind.TheVariants as gaps
 use Rattle.ld_msg.specs.Reader.{Reader}
-use Rattle.ld_machine.specs.Config.{fixed_of, fixed_at}
+use Rattle.ld_machine.specs.Config.{fixed_of, fixed_at, has_log}
 use Rattle.ld_machine.specs.State.{State, start}
-use Rattle.ld_machine.specs.Calm.{calm_moves, calm_bound}
+use Rattle.ld_machine.specs.Calm.{calm_moves, calm_bound, calms}
 use Rattle.ld_machine.specs.Run.{Move, transcript, history, moves, state_after, after_step, world_after, step_happened}
 use Rattle.ld_machine.specs.World.{Made, In, HasPlan, begin}
 use Rattle.ld_machine.specs.Losses.{EndsAsLoss, Completes as Confirms}
@@ -22,6 +22,7 @@ use Rattle.ld_safety.specs.OneCopy.{OneSends}
 use Rattle.ld_safety.specs.OneRun.{AreOneRun}
 use Rattle.ld_calm.specs.Ends.{IsCalm}
 use Rattle.ld_calm.specs.Lines.{told_bounds}
+use Rattle.ld_served.specs.Served.{AllWell, NoLimit, IsServed}
 use Rattle.ld_cli.specs.declared.status.Stop.{Stop}
 use Rattle.ld_cli.specs.declared.status.Stop.TheVariants as stops
 use Rattle.ld_cli.specs.declared.status.Status.{Status}
@@ -71,12 +72,14 @@ LossesConfirmed config events = (name : List ℕ) (number : ℕ) (before : List 
     → LossAsked config name d.log number before gives
 
 -- a calm behind these events ends: each of its steps is the next one with what is left to do, behind the last one nothing is left, and there are no more of them than
--- the bound that is read from the state, and than the one that the lines before it tell
+-- the bound that is read from the state, and than the one that the lines before it tell; where all is well as it begins, and no limit is met, each log is served behind it
 pub record CalmEnds (config : Config) (before : List Event) : Type 0 where
   pub whole : IsCalm config (state_after config (start config) before) (calm_moves config (state_after config (start config) before))
   pub few : length (calm_moves config (state_after config (start config) before)) ≤ calm_bound config (state_after config (start config) before)
   pub told : length (calm_moves config (state_after config (start config) before))
       ≤ 2 * length (state_after config (start config) before).network.fresh + told_bounds config (history config before) (state_after config (start config) before) config.logs
+  pub served : AllWell config (state_after config (start config) before) → NoLimit (calms config (state_after config (start config) before)) → (log : ℕ) → has_log config log ≡ true
+      → IsServed config (calms config (state_after config (start config) before)).state log
 
 -- the headline: in the run of these events what each reader gets tiles the numbers from its first one on, a record is the payload that was appended under its
 -- number, the messages of a batch are those of the batch that was, each reader gets records or messages as it was opened, no hole or bridge holds a number that was

@@ -7,7 +7,7 @@ ghost use Rattle.ld_machine.specs.Config.{first_spec};
 ghost use Rattle.ld_machine.specs.State.{State};
 ghost use Rattle.ld_machine.specs.Step.{spec_set};
 ghost use Rattle.ld_dial.specs.Far.{Far};
-ghost use Rattle.ld_words.specs.Bounds.{IsTailInBounds, IsLogInBounds};
+ghost use Rattle.ld_words.specs.Bounds.{IsTailInBounds, IsAppendInBounds};
 ghost use Rattle.ld_rounds.specs.Drives.{IsBroken};
 ghost use Rattle.ld_rounds.specs.Endings.{IsOffAs, IsEndedOff};
 ghost use Rattle.ld_append.specs.Acting.{HoldsSome, LacksRoom, IsSpecOf, IsUnset, MayCrowd};
@@ -75,10 +75,11 @@ fn status_of(ended: Ended, before: u64, now: u64) -> Status
     }
 }
 
-/// Appends the payloads of the lines to the log of this spec, and says how that ended.
+/// Appends the payloads of the lines to the log of this spec, trims it as the lines say, and says how that ended.
 fn append_lines<I: Ready, O: Sink, G: Register, N: Nodes>(
     alloc: Global,
     words: &LogWords,
+    in_flight: u32,
     spec: &Spec,
     name: Name,
     lines: &mut PayloadLines<I>,
@@ -105,6 +106,7 @@ fn append_lines<I: Ready, O: Sink, G: Register, N: Nodes>(
         spec,
         name,
         words.rounds,
+        in_flight,
         &mut *reg,
         nodes,
         lines,
@@ -114,7 +116,8 @@ fn append_lines<I: Ready, O: Sink, G: Register, N: Nodes>(
     status_of(ended, before, now)
 }
 
-/// Appends the payloads of the input, or the batches of its messages, to the log that the arguments name.
+/// Appends the payloads of the input, or the batches of its messages, to the log that the arguments name, and trims it as the
+/// input says.
 pub(crate) fn appended<I: Ready, O: Sink, G: Register, N: Nodes>(
     alloc: Global,
     words: &AppendWords,
@@ -123,7 +126,7 @@ pub(crate) fn appended<I: Ready, O: Sink, G: Register, N: Nodes>(
     reg: &mut G,
     nodes: &mut N,
 ) -> Status
-    requires bounds { IsLogInBounds words.now.of }
+    requires bounds { IsAppendInBounds words.now }
     ensures appended { (s : State) (far : Far) → N.tells nodes.old words.now.of.config far → Begins (HasNoSequencers (G.tells reg.old)) words.now.of.config s far → spec_set words.now.of.config s words.now.of.log ≡ first_spec words.now.of.config words.now.of.log
         → (N.silent nodes.new ≡ true) ⊎ EndsDrive (N.faults nodes.old) (N.faults nodes.new)
         (IsAppended (codes "s") words.now.of.log (IsBroken (N.faults nodes.old) (N.faults nodes.new) (N.endings nodes.old) (N.endings nodes.new)) (payloads_in words.now.batches (left_of (I.known input.old) (I.gave input.old))) words.now.of.rounds (N.tells nodes.new) (G.tells reg.new) words.now.of.config s (Some (O.written out.old)) (Some (O.written out.new))) result }
@@ -147,7 +150,17 @@ pub(crate) fn appended<I: Ready, O: Sink, G: Register, N: Nodes>(
         held: &mut held,
         input,
     };
-    append_lines(alloc, &words.of, &spec, name, &mut lines, out, reg, nodes)
+    append_lines(
+        alloc,
+        &words.of,
+        words.in_flight,
+        &spec,
+        name,
+        &mut lines,
+        out,
+        reg,
+        nodes,
+    )
 }
 
 /// Reads the log that the arguments name.

@@ -1,12 +1,13 @@
-// The payloads that the lines of the input spell.
-ghost use Rattle.std.specs.Prelude.{◌≡◌, ◌≤◌, [], true, false, IfOk, IfErr, IfSome, MatchResult};
+// The payloads and trims that the lines of the input spell.
+ghost use Rattle.std.specs.Prelude.{◌≡◌, ◌≤◌, ◌<◌, ◌^◌, [], true, false, IfOk, IfErr, IfSome, MatchResult};
 ghost use Rattle.std.specs.Io.KnownBytes.{prepend_known};
 ghost use Rattle.ld_io.specs.Input.{left_of};
 ghost use Rattle.ld_ids.specs.Bytes.{AreBytes, hex_text};
+ghost use Rattle.ld_lsn.specs.Number.{lsn_text};
 ghost use Rattle.ld_schedule.specs.Reading.{IsText};
 ghost use Rattle.ld_schedule.specs.Grammar.{IsBatch, messages_text};
 ghost use Rattle.ld_rounds.specs.Input.{Gives, IsReadFault};
-ghost use Rattle.ld_cli.specs.Payloads.{batch_payload, IsBatchLine, Spells, IsUnspelt, input_after, line_ready};
+ghost use Rattle.ld_cli.specs.Payloads.{batch_payload, IsBatchLine, SpellsPayload, Spells, IsUnspeltPayload, IsUnspeltTrim, IsUnspelt, input_after, line_ready};
 
 use crate::input::Buffer;
 use crate::lines::{Ending, LONGEST, next_line};
@@ -14,13 +15,18 @@ use crate::status::Stop;
 use ld_batch::Messages;
 use ld_ids::{NoMemory, Payload};
 use ld_io::Source;
+use ld_lsn::Lsn;
+use ld_lsn::text::after;
 use ld_ready::Ready;
-use ld_rounds::{InputFault, Payloads};
+use ld_rounds::{InputFault, Payloads, Request};
 use ld_schedule::{LineFault, parse_messages, parse_payload};
 use std::alloc::Global;
 
 /// How many bytes a payload has at most.
 const PAYLOAD_LIMIT: usize = 65_535;
+
+/// How many bytes `trim ` has.
+const TRIM_LENGTH: u64 = 5;
 
 /// What was read of an input and not taken, its last line, and how many lines were begun.
 #[derive(Drop)]
@@ -32,7 +38,7 @@ pub(crate) struct Held {
     number: u64,
 }
 
-/// The lines of an input, each of which is to spell a payload, or the messages of a batch. It owns no memory, so that the input
+/// The lines of an input, each of which is to spell a payload, or the messages of a batch; or a trim. It owns no memory, so that the input
 /// is seen to come back.
 #[derive(Drop)]
 pub(crate) struct PayloadLines<'a, I: Ready> {
@@ -42,7 +48,7 @@ pub(crate) struct PayloadLines<'a, I: Ready> {
 
 /// The payload that a line of this number spells, or the byte offset of its syntax error.
 fn spelt_payload(alloc: Global, line: &[u8], number: u64) -> Result<Payload, InputFault>
-    ensures { MatchResult result (IsText AreBytes hex_text line.now) (IsUnspelt false number line.now) }
+    ensures { MatchResult result (IsText AreBytes hex_text line.now) (IsUnspeltPayload false number line.now) }
 {
     match parse_payload(alloc, line) {
         Ok(payload) => Ok(payload),
@@ -58,7 +64,7 @@ fn spelt_payload(alloc: Global, line: &[u8], number: u64) -> Result<Payload, Inp
 
 /// The messages that a line of this number spells, or the byte offset of its syntax error.
 fn spelt_messages(alloc: Global, line: &[u8], number: u64) -> Result<Messages, InputFault>
-    ensures { MatchResult result (IsText IsBatch messages_text line.now) (IsUnspelt true number line.now) }
+    ensures { MatchResult result (IsText IsBatch messages_text line.now) (IsUnspeltPayload true number line.now) }
 {
     match parse_messages(alloc, line) {
         Ok(messages) => Ok(messages),
@@ -87,13 +93,27 @@ fn batch_payload(alloc: Global, messages: &Messages) -> Result<Payload, NoMemory
 
 /// The payload of the batch whose messages a line of this number spells, or the byte offset of its syntax error.
 fn spelt_batch(alloc: Global, line: &[u8], number: u64) -> Result<Payload, InputFault>
-    ensures { MatchResult result (IsBatchLine line.now) (IsUnspelt true number line.now) }
+    ensures { MatchResult result (IsBatchLine line.now) (IsUnspeltPayload true number line.now) }
 {
     let messages = spelt_messages(alloc, line, number)?;
     match batch_payload(alloc, &messages) {
         Ok(payload) => Ok(payload),
         Err(_) => Err(InputFault::NoMemory),
     }
+}
+
+/// The number that a line of this number spells behind `trim `, or the byte offset of its syntax error.
+fn spelt_trim(behind: &[u8], number: u64) -> Result<Lsn, InputFault>
+    ensures { MatchResult result (λ point. (point < 2 ^ 64) × (behind.now ≡ lsn_text point)) (IsUnspeltTrim number behind.now) }
+{
+    let Some(point) = Lsn::parse(behind) else {
+        return Err(InputFault::BadLine {
+            line: number,
+            place: TRIM_LENGTH,
+        });
+    };
+    let _ = point.value();
+    Ok(point)
 }
 
 impl Held {
@@ -115,8 +135,8 @@ impl Held {
     }
 
     /// The payload that the last line spells, or the byte offset of its syntax error.
-    fn spelt(&self, alloc: Global) -> Result<Payload, InputFault>
-        ensures { MatchResult result (Spells self.now.batches self.now.line.items) (IsUnspelt self.now.batches self.now.number self.now.line.items) }
+    fn payload(&self, alloc: Global) -> Result<Payload, InputFault>
+        ensures { MatchResult result (SpellsPayload self.now.batches self.now.line.items) (IsUnspeltPayload self.now.batches self.now.number self.now.line.items) }
     {
         if self.batches {
             spelt_batch(alloc, &self.line, self.number)
@@ -125,12 +145,28 @@ impl Held {
         }
     }
 
-    /// Takes the next payload of the input; none is at its end.
+    /// What the last line asks for, or the byte offset of its syntax error.
+    fn spelt(&self, alloc: Global) -> Result<Request, InputFault>
+        ensures { MatchResult result (Spells self.now.batches self.now.line.items) (IsUnspelt self.now.batches self.now.number self.now.line.items) }
+    {
+        match after(&self.line, b"trim ") {
+            Some(behind) => match spelt_trim(behind, self.number) {
+                Ok(point) => Ok(Request::Trim(point)),
+                Err(fault) => Err(fault),
+            },
+            None => match self.payload(alloc) {
+                Ok(payload) => Ok(Request::Append(payload)),
+                Err(fault) => Err(fault),
+            },
+        }
+    }
+
+    /// Takes the next request of the input; none is at its end.
     fn next<I: Source>(
         &mut self,
         alloc: Global,
         input: &mut I,
-    ) -> Result<Option<Payload>, InputFault>
+    ) -> Result<Option<Request>, InputFault>
         ensures gives { Gives (input_after self.old.batches self.old.number (prepend_known self.old.buffer (left_of (I.known input.old) (I.gave input.old)))) (input_after self.new.batches self.new.number (prepend_known self.new.buffer (left_of (I.known input.new) (I.gave input.new)))) result }
         ensures later { I.faults input.old ≤ I.faults input.new }
         ensures cause { IfErr result (IsReadFault (I.faults input.old) (I.faults input.new)) }
@@ -138,8 +174,8 @@ impl Held {
         self.number = self.number.saturating_add(1);
         match next_line(&mut self.buffer, input, &mut self.line) {
             Ok(Ending::Line) => {
-                let payload = self.spelt(alloc)?;
-                Ok(Some(payload))
+                let request = self.spelt(alloc)?;
+                Ok(Some(request))
             }
             Ok(Ending::End) => Ok(None),
             Ok(Ending::Cut) => Err(InputFault::BadLine {
@@ -179,7 +215,7 @@ impl<'a, I: Ready> Payloads for PayloadLines<'a, I> {
 
     ghost ready = { λ p. line_ready p.held.now.buffer (I.ready p.input.now) };
 
-    fn next(&mut self, alloc: Global) -> Result<Option<Payload>, InputFault> {
+    fn next(&mut self, alloc: Global) -> Result<Option<Request>, InputFault> {
         self.held.next(alloc, self.input)
     }
 

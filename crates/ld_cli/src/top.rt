@@ -145,12 +145,13 @@ pub fn run<I: Ready, O: Sink, D: Disk, G: Register, L: Link, N: Nodes, C: Crowd>
 
     // `append`: where the nodes and the register tell what stands there, from any sound state of the written machine with these
     // and without sequencers, in which the log's next activation fixes what the configuration says of it: the drive is steps of
-    // the machine, the activation and then round by round what is sent again (but in the first), appends, and visits of the
-    // configuration's nodes, one after the other, each until nothing waits for its node; and what was written are the
-    // sequencer's lines of those steps. The payloads that the machine took are those that the lines of the input spell, or the
-    // payloads of the batches whose messages they spell where batches are asked for: the first ones in their order, all at the
-    // status Ok, and at BadSchedule all before the line with a syntax error. At the status Ok each append is acknowledged, each
-    // epoch before its own is closed, and no message waits.
+    // the machine, the activation and then round by round what is sent again (but in the first), appends and trims, and visits
+    // of the configuration's nodes, one after the other, each until nothing waits for its node; and what was written are the
+    // sequencer's lines of those steps. A trim comes only where each append is acknowledged and each epoch before its own is
+    // closed. The payloads and trims that the machine took are those that the lines of the input spell, or the payloads of the
+    // batches whose messages they spell where batches are asked for: the first ones in their order, all at the status Ok, and at
+    // BadSchedule all before the line with a syntax error. At the status Ok each append is acknowledged, each epoch before its
+    // own is closed, and no message waits.
     ensures appended { (w : AppendWanted) (s : State) (far : Far) → Asks (map string_bytes words.now) (Append w) → N.tells nodes.old w.of.config far → Begins (HasNoSequencers (G.tells reg.old)) w.of.config s far → spec_set w.of.config s w.of.log ≡ first_spec w.of.config w.of.log
         → (N.silent nodes.new ≡ true) ⊎ EndsDrive (N.faults nodes.old) (N.faults nodes.new)
         (IsAppended (codes "s") w.of.log (IsBroken (N.faults nodes.old) (N.faults nodes.new) (N.endings nodes.old) (N.endings nodes.new)) (payloads_in w.batches (left_of (I.known input.old) (I.gave input.old))) w.of.rounds (N.tells nodes.new) (G.tells reg.new) w.of.config s (Some (O.written out.old)) (Some (O.written out.new))) result }

@@ -91,7 +91,7 @@ pub goes_unoff : {R : Type 0} (off : Option WireFault) (v : R) → EndsOff off (
 goes_unoff None v h = refl
 goes_unoff {R} (Some fault) v h = (let wrong : Ok v ≡ Err (ends.BadFrame fault) = h in absurd cc)
 
-err_is : (R : Type 0) (e f : Ended) → ◌≡◌ {A = Result R Ended} (Err e) (Err f) → e ≡ f
+pub err_is : (R : Type 0) (e f : Ended) → ◌≡◌ {A = Result R Ended} (Err e) (Err f) → e ≡ f
 err_is R e f h = cc
 
 -- an ending, whatever is given where it goes on

@@ -1,4 +1,4 @@
--- A sequencer is driven over payloads.
+-- A sequencer is driven over payloads and trims.
 use Rattle.std.proofs.Common.{◌≡◌, ◌≤◌, ℕ, refl, sym, ap, subst, Bool, true, false, List, ◌∷◌, Option, None, Some, Ok, Err, ◌∙◌, arith, ◌&&◌, [], ◌++◌, append_assoc}
 use Rattle.std.specs.Prelude.{IfErr, OnOk, MatchOption}
 use Rattle.std.specs.declared.result.Result.{Result}
@@ -13,10 +13,11 @@ use Rattle.ld_wire.specs.declared.fault.WireFault.{WireFault}
 use Rattle.ld_dial.specs.Far.{Far}
 use Rattle.ld_rounds.specs.declared.ended.Ended.{Ended}
 use Rattle.ld_rounds.specs.declared.ended.Ended.TheVariants as ends
+use Rattle.ld_rounds.specs.declared.request.Request.{Request}
 use Rattle.ld_rounds.specs.Endings.{IsLater, IsEnding, IsOffAs}
 use Rattle.ld_rounds.specs.Input.{Input, all_taken, GivesNext, ComesTo}
 use Rattle.ld_rounds.specs.Feeding.{upcoming, NextIs, WasOver, IsAhead, SameBehind, StaysAs, HasCome, IsOffBehind, IsInputEnding, IsAppendEnding}
-use Rattle.ld_rounds.specs.Rounds.{HasFed, Feeds, FeedsUntil, Rounds, RoundsUntil}
+use Rattle.ld_rounds.specs.Rounds.{Feeds, FeedsUntil, Rounds, RoundsUntil}
 use Rattle.ld_rounds.specs.Drives.{Driver, Went, Stops, GoesOn}
 use Rattle.ld_rounds.proofs.Joining.{Joins, IsPartly, round_as, round_part, until_end, input_until}
 use Rattle.ld_rounds.proofs.Endings.{ending_since}
@@ -58,17 +59,17 @@ of_input o p q k m a c ends.EpochLimit i = absurd i
 of_input o p q k m a c ends.EpochFull i = absurd i
 of_input o p q k m a c (ends.Register fault) i = absurd i
 
--- ---- what comes behind all payloads ----
+-- ---- what comes behind all requests ----
 
 pub same_here : (i : Option Input) → SameBehind i i
 same_here None = tt
-same_here (Some i) = record { left = i; now = refl; front = []; payloads = refl; off = refl }
+same_here (Some i) = record { left = i; now = refl; front = []; requests = refl; off = refl }
 
 pub same_on : (i j k : Option Input) → SameBehind i j → SameBehind j k → SameBehind i k
 same_on None j k a b = tt
 same_on (Some i) j k a b =
     let h : IsAhead a.left k = subst (λ o. SameBehind o k) a.now b in
-    record { left = h.left; now = h.now; front = a.front ++ h.front; payloads = a.payloads ∙ (ap (λ l. a.front ++ l) h.payloads ∙ sym (append_assoc a.front h.front h.left.payloads)); off = h.off ∙ a.off }
+    record { left = h.left; now = h.now; front = a.front ++ h.front; requests = a.requests ∙ (ap (λ l. a.front ++ l) h.requests ∙ sym (append_assoc a.front h.front h.left.requests)); off = h.off ∙ a.off }
 
 pub off_since : (i j : Option Input) (line place : ℕ) → SameBehind i j → IsOffBehind j line place → IsOffBehind i line place
 off_since None j line place a o = tt
@@ -76,27 +77,27 @@ off_since (Some i) j line place a o =
     let h : ComesTo a.left line place = subst (λ x. IsOffBehind x line place) a.now o in
     record { rest = h.rest; batches = h.batches; off = sym a.off ∙ h.off; at = h.at }
 
-pub next_behind : (i j : Option Input) (o : Option (List ℕ)) → NextIs i j (Ok o) → SameBehind i j
+pub next_behind : (i j : Option Input) (o : Option Request) → NextIs i j (Ok o) → SameBehind i j
 next_behind None j o n = tt
-next_behind (Some i) j (Some payload) n = record { left = record { payloads = n.rest; off = i.off }; now = n.left; front = payload ∷ []; payloads = n.first; off = refl }
-next_behind (Some i) j None n = record { left = all_taken; now = n.1; front = []; payloads = ap (λ (x : Input). x.payloads) n.0; off = ap (λ (x : Input). x.off) (sym n.0) }
+next_behind (Some i) j (Some request) n = record { left = record { requests = n.rest; off = i.off }; now = n.left; front = request ∷ []; requests = n.first; off = refl }
+next_behind (Some i) j None n = record { left = all_taken; now = n.1; front = []; requests = ap (λ (x : Input). x.requests) n.0; off = ap (λ (x : Input). x.off) (sym n.0) }
 
 -- the next one is taken, and held
-pub held_behind : (i j coming : Option Input) (payload : List ℕ) → SameBehind i j → NextIs j coming (Ok (Some payload)) → SameBehind i (upcoming (Some payload) coming)
-held_behind None j coming payload h n = tt
-held_behind (Some i) j coming payload h n =
-    let m : GivesNext h.left coming payload = subst (λ x. NextIs x coming (Ok (Some payload))) h.now n in
+pub held_behind : (i j coming : Option Input) (request : Request) → SameBehind i j → NextIs j coming (Ok (Some request)) → SameBehind i (upcoming (Some request) coming)
+held_behind None j coming request h n = tt
+held_behind (Some i) j coming request h n =
+    let m : GivesNext h.left coming request = subst (λ x. NextIs x coming (Ok (Some request))) h.now n in
     record {
-      left = record { payloads = payload ∷ m.rest; off = h.left.off };
-      now = ap (upcoming (Some payload)) m.left;
+      left = record { requests = request ∷ m.rest; off = h.left.off };
+      now = ap (upcoming (Some request)) m.left;
       front = h.front;
-      payloads = h.payloads ∙ ap (λ l. h.front ++ l) m.first;
+      requests = h.requests ∙ ap (λ l. h.front ++ l) m.first;
       off = h.off;
     }
 
-pub held_next : (payload : List ℕ) (coming : Option Input) → NextIs (upcoming (Some payload) coming) coming (Ok (Some payload))
-held_next payload None = tt
-held_next payload (Some i) = record { rest = i.payloads; first = refl; left = refl }
+pub held_next : (request : Request) (coming : Option Input) → NextIs (upcoming (Some request) coming) coming (Ok (Some request))
+held_next request None = tt
+held_next request (Some i) = record { rest = i.requests; first = refl; left = refl }
 
 -- the input has ended just now
 pub over_now : (origin i j k : Option Input) (b : Bool) → SameBehind origin i → SameBehind i j → NextIs j k (Ok None) → WasOver origin b k
@@ -114,26 +115,26 @@ over_later origin coming true e = absurd cc
 
 pub stays_behind : (i j : Option Input) → StaysAs i j → SameBehind i j
 stays_behind None j h = tt
-stays_behind (Some i) j h = record { left = i; now = h; front = []; payloads = refl; off = refl }
+stays_behind (Some i) j h = record { left = i; now = h; front = []; requests = refl; off = refl }
 
 pub stays_here : (i : Option Input) → StaysAs i i
 stays_here None = tt
 stays_here (Some i) = refl
 
 -- the next one is taken, and held
-pub next_stays : (i coming : Option Input) (o : Option (List ℕ)) → NextIs i coming (Ok o) → StaysAs i (upcoming o coming)
+pub next_stays : (i coming : Option Input) (o : Option Request) → NextIs i coming (Ok o) → StaysAs i (upcoming o coming)
 next_stays None coming o n = tt
-next_stays (Some i) coming (Some payload) n = ap (upcoming (Some payload)) n.left ∙ ap (λ (ps : List (List ℕ)). Some (record i { payloads = ps })) (sym n.first)
+next_stays (Some i) coming (Some request) n = ap (upcoming (Some request)) n.left ∙ ap (λ (rs : List Request). Some (record i { requests = rs })) (sym n.first)
 next_stays (Some i) coming None n = n.1 ∙ ap (λ (x : Input). Some x) (sym n.0)
 
 -- the input has ended by that, where it has
-pub over_next : (origin i coming : Option Input) (o : Option (List ℕ)) (before now : Bool) → SameBehind origin i → NextIs i coming (Ok o) → before ≡ false → MatchOption o (now ≡ true) (λ payload. now ≡ before) → WasOver origin now (upcoming o coming)
+pub over_next : (origin i coming : Option Input) (o : Option Request) (before now : Bool) → SameBehind origin i → NextIs i coming (Ok o) → before ≡ false → MatchOption o (now ≡ true) (λ request. now ≡ before) → WasOver origin now (upcoming o coming)
 over_next origin i coming None before now p n f m = over_now origin i i coming now p (same_here i) n
-over_next origin i coming (Some payload) before now p n f m = over_later origin (upcoming (Some payload) coming) now (m ∙ f)
+over_next origin i coming (Some request) before now p n f m = over_later origin (upcoming (Some request) coming) now (m ∙ f)
 
-pub ended_next : (o : Option (List ℕ)) (before now : Bool) → MatchOption o (now ≡ true) (λ payload. now ≡ before) → o ≡ None → now ≡ true
+pub ended_next : (o : Option Request) (before now : Bool) → MatchOption o (now ≡ true) (λ request. now ≡ before) → o ≡ None → now ≡ true
 ended_next None before now m h = m
-ended_next (Some payload) before now m h = absurd cc
+ended_next (Some request) before now m h = absurd cc
 
 module _ (c : Config) where
   pub stays_fed : (i j k : Option Input) (s : State) (es : List Event) → StaysAs i j → Feeds c j k s es → Feeds c i k s es
@@ -142,7 +143,7 @@ module _ (c : Config) where
 
   pub fed_stays : (i j k : Option Input) (s : State) (es : List Event) → Feeds c i j s es → StaysAs j k → Feeds c i k s es
   fed_stays None j k s es f h = tt
-  fed_stays (Some i) j k s es f h = record { left = f.left; now = subst (λ o. StaysAs o k) f.now h; payloads = f.payloads; off = f.off }
+  fed_stays (Some i) j k s es f h = record { left = f.left; now = subst (λ o. StaysAs o k) f.now h; requests = f.requests; off = f.off }
 
   pub stays_until : (i j : Option Input) (e : Ended) (s : State) (es : List Event) → StaysAs i j → FeedsUntil c j e s es → FeedsUntil c i e s es
   stays_until None j e s es h f = tt
@@ -245,7 +246,7 @@ pub stays_given : {R : Type 0} (i j k : Option Input) (r : Result R Ended) → S
 stays_given i j k (Ok v) a b = same_on i j k a (stays_behind j k b)
 stays_given i j k (Err e) a b = tt
 
--- behind a round the next payload is waited for
+-- behind a round the next request is waited for
 pub waited_so : (who : Driver) (broken : Type 0) (c : Config) (first : ℕ) (b : IsInBounds c) {R : Type 0} (name : List ℕ) (dry : Type 0) (ys : List ℕ) (f : Bool) (i j k : Option Input) (p q : ℕ) (less : Type 0) (A : Config → State → Type 0) (T U : Far → Type 0) (s : State) (qs : List (List Msg)) (old new : Option (List ℕ)) (r : Result R Ended)
     → (less → broken) → ((far : Far) → T far → U far) → OnOk r (StaysAs j k) → IfErr r (λ e. NextIs j k (Err e)) → IfErr r (IsInputEnding j p q)
     → Went who less (Rounds name c dry first ys f i j) A T c first s qs old new → GoesOn who broken (Rounds name c (Unit {0}) first ys f i k) (RoundsUntil name c f i) A U c first s qs old new r
@@ -257,10 +258,10 @@ waited_so who broken c first b name dry ys f i j k p q less A T U s qs old new (
     (λ es x. (round_part c name dry first ys f s es x.0, until_end c i j e s es x.1 (input_until c j k e p q j (state_after c s es) n z)))
     (went_as who broken c first b (Rounds name c dry first ys f i j) less A T U s qs old new l t w)
 
--- where it isn't done though all but the input is, a payload came
-none_there : (front : List (List ℕ)) (payload : List ℕ) (rest : List (List ℕ)) → front ++ payload ∷ rest ≡ [] → ⊥
-none_there [] payload rest h = absurd cc
-none_there (p ∷ front) payload rest h = absurd cc
+-- where it isn't done though all but the input is, a request came
+none_there : (front : List Request) (request : Request) (rest : List Request) → front ++ request ∷ rest ≡ [] → ⊥
+none_there [] request rest h = absurd cc
+none_there (r ∷ front) request rest h = absurd cc
 
 over_or : (a b over : Bool) → (a && (b && over)) ≡ false → over ≡ true → (a && b) ≡ true → ⊥
 over_or true true true d o h = never true refl d
@@ -268,11 +269,11 @@ over_or true true false d o h = never false o refl
 over_or true false over d o h = never false h refl
 over_or false b over d o h = never false h refl
 
-pub has_come : (i : Option Input) (held : Option (List ℕ)) (coming : Option Input) (a b over : Bool) → SameBehind i (upcoming held coming) → (a && (b && over)) ≡ false → ((a && b) ≡ true → held ≡ None → over ≡ true) → (a && b) ≡ true → HasCome i
+pub has_come : (i : Option Input) (held : Option Request) (coming : Option Input) (a b over : Bool) → SameBehind i (upcoming held coming) → (a && (b && over)) ≡ false → ((a && b) ≡ true → held ≡ None → over ≡ true) → (a && b) ≡ true → HasCome i
 has_come None held coming a b over s d k h = tt
-has_come (Some i) (Some payload) None a b over s d k h = (let wrong : None ≡ Some s.left = s.now in absurd cc)
-has_come (Some i) (Some payload) (Some input) a b over s d k h = λ none.
-    let is : Some (record input { payloads = payload ∷ input.payloads }) ≡ Some s.left = s.now in
-    let left : record input { payloads = payload ∷ input.payloads } ≡ s.left = cc in
-    none_there s.front payload input.payloads (ap (λ (x : Input). s.front ++ x.payloads) left ∙ (sym s.payloads ∙ none))
+has_come (Some i) (Some request) None a b over s d k h = (let wrong : None ≡ Some s.left = s.now in absurd cc)
+has_come (Some i) (Some request) (Some input) a b over s d k h = λ none.
+    let is : Some (record input { requests = request ∷ input.requests }) ≡ Some s.left = s.now in
+    let left : record input { requests = request ∷ input.requests } ≡ s.left = cc in
+    none_there s.front request input.requests (ap (λ (x : Input). s.front ++ x.requests) left ∙ (sym s.requests ∙ none))
 has_come (Some i) None coming a b over s d k h = absurd (over_or a b over d (k h refl) h)

@@ -14,10 +14,13 @@ use Rattle.ld_machine.specs.Step.{happens}
 use Rattle.ld_machine.specs.Run.{step, state_after}
 use Rattle.ld_rounds.specs.declared.ended.Ended.{Ended}
 use Rattle.ld_rounds.specs.declared.ended.Ended.TheVariants as ends
+use Rattle.ld_rounds.specs.declared.request.Request.{Request}
+use Rattle.ld_rounds.specs.declared.request.Request.TheVariants as asks
 use Rattle.ld_rounds.specs.Input.{Input, all_taken}
 use Rattle.ld_rounds.specs.Feeding.{upcoming, NoneComes, WasOver, NextIs, IsInputEnding}
 use Rattle.ld_rounds.specs.Drives.{Turned}
-use Rattle.ld_rounds.specs.Rounds.{Splits, is_quiet, Quiet, IsDelivered, waiting_by, waiting_in, waiting, IsTickBehind, IsReminded, IsCalm, AreCalm, Calm, ticks_only, Visiting, IsVisit, AreVisits, IsPolled, IsReadRound, IsReadPart, AreReadRounds, IsRetry, MayRetry, IsAppendRound, AreAppendRounds, AreAppends, IsAppendBy, IsBegun, tells_full, taken_by, taken_of, HasFed, Feeds, HasFedSome, FeedsUntil, Both, FindRoom, Fills, IsFull, finds_full, AreFilling, IsPrepared, IsAppendPart, finds_final}
+use Rattle.ld_rounds.specs.Requests.{request_event, has_to_wait, is_waiting, settled_at, IsRequestBy}
+use Rattle.ld_rounds.specs.Rounds.{Splits, is_quiet, Quiet, IsDelivered, waiting_by, waiting_in, waiting, IsTickBehind, IsReminded, IsCalm, AreCalm, Calm, ticks_only, Visiting, IsVisit, AreVisits, IsPolled, IsReadRound, IsReadPart, AreReadRounds, IsRetry, MayRetry, IsAppendRound, AreAppendRounds, AreRequests, IsAsking, IsDry, tells_full, taken_by, taken_of, HasFed, Feeds, HasFedSome, FeedsUntil, Both, FindRoom, Fills, finds_full, AreFilling, IsPrepared, IsAppendPart, finds_final}
 
 -- by so many rounds
 pub turned : {Y : Type 0} {W : ℕ → Type 0} (low high n : ℕ) → low ≤ n → n < high → Y ⊎ W n → Y ⊎ Turned low high W
@@ -47,6 +50,23 @@ IsPartly _ = Unit {0}
 pub none_upcoming : (origin : Option Input) (b : Bool) (coming : Option Input) → b ≡ true → WasOver origin b coming → NoneComes origin coming
 none_upcoming origin true coming e w = w
 none_upcoming origin false coming e w = absurd cc
+
+-- a request that doesn't have to wait comes when it may
+pub comes_so : (name : List ℕ) (request : Request) (s : State) (settled : Bool) → (settled ≡ true → settled_at name s ≡ true) → has_to_wait request settled ≡ false → IsRequestBy name s (request_event name request)
+comes_so name (asks.Append payload) s settled f h = refl
+comes_so name (asks.Trim point) s true f h = (refl, f refl)
+comes_so name (asks.Trim point) s false f h = absurd cc
+
+-- it is told less of the one that has to wait
+waits_as : (held : Option Request) (settled : Bool) → is_waiting held settled ≡ true → is_waiting held false ≡ true
+waits_as None settled h = absurd cc
+waits_as (Some (asks.Append payload)) settled h = absurd cc
+waits_as (Some (asks.Trim point)) settled h = refl
+
+pub dry_as : (over : Bool) (ready : Option Bool) (held : Option Request) (settled : Bool) → IsDry over ready held settled → IsDry over ready held false
+dry_as over ready held settled (inl h) = inl h
+dry_as over ready held settled (inr (inl h)) = inr (inl h)
+dry_as over ready held settled (inr (inr h)) = inr (inr (waits_as held settled h))
 
 all-append : (P : Event → Type 0) (es fs : List Event) → AllByRecursion P es → AllByRecursion P fs → AllByRecursion P (es ++ fs)
 all-append P [] fs a b = b
@@ -122,8 +142,10 @@ module _ (c : Config) where
   pub quiet_joins : Joins c Quiet Quiet Quiet
   quiet_joins s es fs a b = all-append (λ e. is_quiet e ≡ true) es fs a b
 
-  pub appends_join : (name : List ℕ) → Joins c (AreAppends name) (AreAppends name) (AreAppends name)
-  appends_join name s es fs a b = all-append (IsAppendBy name) es fs a b
+  pub requests_join : (name : List ℕ) → Joins c (AreRequests name c) (AreRequests name c) (AreRequests name c)
+  unfolding state_after
+  requests_join name s [] fs a b = b
+  requests_join name s (e ∷ es) fs a b = (a.0, requests_join name (step c s e).state es fs a.1 b)
 
   pub splits_join : (P Q : State → List Event → Type 0) → Joins c P Q (Splits P Q c)
   splits_join P Q s es fs p q = record { front = es; rest = fs; whole = refl; came = p; goes = q }
@@ -186,7 +208,7 @@ module _ (c : Config) where
   pub both_join : (P Q R L M N : State → List Event → Type 0) → Joins c P Q R → Joins c L M N → Joins c (Both P L) (Both Q M) (Both R N)
   both_join P Q R L M N f g s es fs a b = (f s es fs a.0 b.0, g s es fs a.1 b.1)
 
-  -- ---- payloads ----
+  -- ---- requests ----
 
   taken-append : (s : State) (es fs : List Event) → taken_of c s (es ++ fs) ≡ taken_of c s es ++ taken_of c (state_after c s es) fs
   unfolding state_after
@@ -199,7 +221,7 @@ module _ (c : Config) where
   calm_takes o s (events.Lose i) h = refl
   calm_takes o s (events.Format n) h = refl
   calm_takes o s (events.Activate n l) h = refl
-  calm_takes o s (events.Trim n p) h = refl
+  calm_takes o s (events.Trim n p) h = absurd h
   calm_takes o s (events.Retry n) h = refl
   calm_takes o s (events.Drop n) h = refl
   calm_takes o s (events.Flow k) h = refl
@@ -225,9 +247,9 @@ module _ (c : Config) where
 
   pub feeds_here : (i : Option Input) (s : State) → Feeds c i i s []
   feeds_here None s = tt
-  feeds_here (Some i) s = record { left = i; now = refl; payloads = refl; off = refl }
+  feeds_here (Some i) s = record { left = i; now = refl; requests = refl; off = refl }
 
-  taken_parts : (s : State) (es fs : List Event) (all left rest : List (List ℕ)) → all ≡ taken_of c s es ++ left → left ≡ taken_of c (state_after c s es) fs ++ rest → all ≡ taken_of c s (es ++ fs) ++ rest
+  taken_parts : (s : State) (es fs : List Event) (all left rest : List Request) → all ≡ taken_of c s es ++ left → left ≡ taken_of c (state_after c s es) fs ++ rest → all ≡ taken_of c s (es ++ fs) ++ rest
   taken_parts s es fs all left rest a b =
       a ∙ (ap (λ l. taken_of c s es ++ l) b ∙ (sym (append_assoc (taken_of c s es) (taken_of c (state_after c s es) fs) rest) ∙ ap (λ l. l ++ rest) (sym (taken-append s es fs))))
 
@@ -235,15 +257,15 @@ module _ (c : Config) where
   feeds_join None j k s es fs a b = tt
   feeds_join (Some i) j k s es fs a b =
       let h : HasFed c a.left k (state_after c s es) fs = subst (λ o. Feeds c o k (state_after c s es) fs) a.now b in
-      record { left = h.left; now = h.now; payloads = taken_parts s es fs i.payloads a.left.payloads h.left.payloads a.payloads h.payloads; off = h.off ∙ a.off }
+      record { left = h.left; now = h.now; requests = taken_parts s es fs i.requests a.left.requests h.left.requests a.requests h.requests; off = h.off ∙ a.off }
 
-  fed_all_join : (i left : Input) (s : State) (es fs : List Event) → i.payloads ≡ taken_of c s es ++ left.payloads → left.payloads ≡ taken_of c (state_after c s es) fs → i.payloads ≡ taken_of c s (es ++ fs)
+  fed_all_join : (i left : Input) (s : State) (es fs : List Event) → i.requests ≡ taken_of c s es ++ left.requests → left.requests ≡ taken_of c (state_after c s es) fs → i.requests ≡ taken_of c s (es ++ fs)
   fed_all_join i left s es fs a b = a ∙ (ap (λ l. taken_of c s es ++ l) b ∙ sym (taken-append s es fs))
 
-  fed_some_join : (i left : Input) (s : State) (es fs : List Event) → i.payloads ≡ taken_of c s es ++ left.payloads → HasFedSome c left (state_after c s es) fs → HasFedSome c i s (es ++ fs)
-  fed_some_join i left s es fs a h = record { left = h.left; payloads = taken_parts s es fs i.payloads left.payloads h.left a h.payloads }
+  fed_some_join : (i left : Input) (s : State) (es fs : List Event) → i.requests ≡ taken_of c s es ++ left.requests → HasFedSome c left (state_after c s es) fs → HasFedSome c i s (es ++ fs)
+  fed_some_join i left s es fs a h = record { left = h.left; requests = taken_parts s es fs i.requests left.requests h.left a h.requests }
 
-  until_by : (i left : Input) (e : Ended) (s : State) (es fs : List Event) → i.payloads ≡ taken_of c s es ++ left.payloads → left.off ≡ i.off → FeedsUntil c (Some left) e (state_after c s es) fs → FeedsUntil c (Some i) e s (es ++ fs)
+  until_by : (i left : Input) (e : Ended) (s : State) (es fs : List Event) → i.requests ≡ taken_of c s es ++ left.requests → left.off ≡ i.off → FeedsUntil c (Some left) e (state_after c s es) fs → FeedsUntil c (Some i) e s (es ++ fs)
   until_by i left ends.Done s es fs a o h = (fed_all_join i left s es fs a h.0, sym o ∙ h.1)
   until_by i left (ends.BadLine line place) s es fs a o h = (fed_all_join i left s es fs a h.0, record { rest = h.1.rest; batches = h.1.batches; off = sym o ∙ h.1.off; at = h.1.at })
   until_by i left ends.Rounds s es fs a o h = fed_some_join i left s es fs a h
@@ -259,14 +281,14 @@ module _ (c : Config) where
 
   pub until_join : (i j : Option Input) (e : Ended) → Joins c (Feeds c i j) (FeedsUntil c j e) (FeedsUntil c i e)
   until_join None j e s es fs a b = tt
-  until_join (Some i) j e s es fs a b = until_by i a.left e s es fs a.payloads a.off (subst (λ o. FeedsUntil c o e (state_after c s es) fs) a.now b)
+  until_join (Some i) j e s es fs a b = until_by i a.left e s es fs a.requests a.off (subst (λ o. FeedsUntil c o e (state_after c s es) fs) a.now b)
 
   pub feeds_calm : (i j : Option Input) → Joins c (Feeds c i j) (Calm c) (Feeds c i j)
   feeds_calm None j s es fs a q = tt
   feeds_calm (Some i) j s es fs a q = record {
     left = a.left;
     now = a.now;
-    payloads = a.payloads ∙ ap (λ l. l ++ a.left.payloads) (sym (taken-append s es fs ∙ (ap (λ l. taken_of c s es ++ l) (none_taken None (state_after c s es) fs q) ∙ append-nil (taken_of c s es))));
+    requests = a.requests ∙ ap (λ l. l ++ a.left.requests) (sym (taken-append s es fs ∙ (ap (λ l. taken_of c s es ++ l) (none_taken None (state_after c s es) fs q) ∙ append-nil (taken_of c s es))));
     off = a.off;
   }
 
@@ -287,7 +309,7 @@ module _ (c : Config) where
 
   pub feeds_until : (i j : Option Input) (e : Ended) (s : State) (es : List Event) → IsPartly e → Feeds c i j s es → FeedsUntil c i e s es
   feeds_until None j e s es p h = tt
-  feeds_until (Some i) j e s es p h = fed_some i e s es p (record { left = h.left.payloads; payloads = h.payloads })
+  feeds_until (Some i) j e s es p h = fed_some i e s es p (record { left = h.left.requests; requests = h.requests })
 
   -- where none is still to come all were taken
   pub feeds_done : (i j : Option Input) (s : State) (es : List Event) → NoneComes i j → Feeds c i j s es → FeedsUntil c i ends.Done s es
@@ -295,14 +317,14 @@ module _ (c : Config) where
   feeds_done (Some i) j s es n h =
       let last : Some h.left ≡ Some all_taken = sym h.now ∙ n in
       let left : h.left ≡ all_taken = cc in
-      (h.payloads ∙ (ap (λ (x : Input). taken_of c s es ++ x.payloads) left ∙ append-nil (taken_of c s es)), sym h.off ∙ ap (λ (x : Input). x.off) left)
+      (h.requests ∙ (ap (λ (x : Input). taken_of c s es ++ x.requests) left ∙ append-nil (taken_of c s es)), sym h.off ∙ ap (λ (x : Input). x.off) left)
 
-  -- no append was made, since the input ends the drive
+  -- no request was made, since the input ends the drive
   pub input_until : (i new : Option Input) (e : Ended) (before now : ℕ) (at : Option Input) (s : State) → NextIs i new (Err e) → IsInputEnding at before now e → FeedsUntil c i e s []
   input_until None new e k n at s x y = tt
   input_until (Some i) new (ends.BadLine line place) k n at s x y = (x.none, x.off)
-  input_until (Some i) new ends.Read k n at s x y = record { left = i.payloads; payloads = refl }
-  input_until (Some i) new ends.NoMemory k n at s x y = record { left = i.payloads; payloads = refl }
+  input_until (Some i) new ends.Read k n at s x y = record { left = i.requests; requests = refl }
+  input_until (Some i) new ends.NoMemory k n at s x y = record { left = i.requests; requests = refl }
   input_until (Some i) new ends.Done k n at s x y = absurd y
   input_until (Some i) new ends.Rounds k n at s x y = absurd y
   input_until (Some i) new (ends.Preempted by) k n at s x y = absurd y
@@ -316,41 +338,48 @@ module _ (c : Config) where
   -- none came
   pub none_fed : (i j : Option Input) (s : State) → NextIs i j (Ok None) → Feeds c i j s []
   none_fed None j s x = tt
-  none_fed (Some i) j s x = record { left = i; now = x.1 ∙ ap (λ (y : Input). Some y) (sym x.0); payloads = refl; off = refl }
+  none_fed (Some i) j s x = record { left = i; now = x.1 ∙ ap (λ (y : Input). Some y) (sym x.0); requests = refl; off = refl }
 
   -- one came, and was taken
-  pub one_fed : (i j : Option Input) (payload : List ℕ) (s : State) (es : List Event) → NextIs i j (Ok (Some payload)) → taken_of c s es ≡ payload ∷ [] → Feeds c i j s es
-  one_fed None j payload s es x t = tt
-  one_fed (Some i) j payload s es x t = record { left = record { payloads = x.rest; off = i.off }; now = x.left; payloads = x.first ∙ ap (λ l. l ++ x.rest) (sym t); off = refl }
+  pub one_fed : (i j : Option Input) (request : Request) (s : State) (es : List Event) → NextIs i j (Ok (Some request)) → taken_of c s es ≡ request ∷ [] → Feeds c i j s es
+  one_fed None j request s es x t = tt
+  one_fed (Some i) j request s es x t = record { left = record { requests = x.rest; off = i.off }; now = x.left; requests = x.first ∙ ap (λ l. l ++ x.rest) (sym t); off = refl }
 
   -- one came, and is held
-  pub held_fed : (i j : Option Input) (payload : List ℕ) (s : State) (es : List Event) → NextIs i j (Ok (Some payload)) → taken_of c s es ≡ [] → Feeds c i (upcoming (Some payload) j) s es
-  held_fed None j payload s es x t = tt
-  held_fed (Some i) j payload s es x t = record {
-    left = record { payloads = payload ∷ x.rest; off = i.off };
-    now = ap (upcoming (Some payload)) x.left;
-    payloads = x.first ∙ ap (λ l. l ++ payload ∷ x.rest) (sym t);
+  pub held_fed : (i j : Option Input) (request : Request) (s : State) (es : List Event) → NextIs i j (Ok (Some request)) → taken_of c s es ≡ [] → Feeds c i (upcoming (Some request) j) s es
+  held_fed None j request s es x t = tt
+  held_fed (Some i) j request s es x t = record {
+    left = record { requests = request ∷ x.rest; off = i.off };
+    now = ap (upcoming (Some request)) x.left;
+    requests = x.first ∙ ap (λ l. l ++ request ∷ x.rest) (sym t);
     off = refl;
   }
 
   -- one came, and the drive ends by it
-  begun_until : (i : Input) (payload : List ℕ) (rest : List (List ℕ)) (e : Ended) (s : State) (es : List Event) → i.payloads ≡ payload ∷ rest → IsPartly e → (taken_of c s es ≡ []) ⊎ (taken_of c s es ≡ payload ∷ []) → FeedsUntil c (Some i) e s es
-  begun_until i payload rest e s es f p (inl t) = fed_some i e s es p (record { left = payload ∷ rest; payloads = f ∙ ap (λ l. l ++ payload ∷ rest) (sym t) })
-  begun_until i payload rest e s es f p (inr t) = fed_some i e s es p (record { left = rest; payloads = f ∙ ap (λ l. l ++ rest) (sym t) })
+  begun_until : (i : Input) (request : Request) (rest : List Request) (e : Ended) (s : State) (es : List Event) → i.requests ≡ request ∷ rest → IsPartly e → (taken_of c s es ≡ []) ⊎ (taken_of c s es ≡ request ∷ []) → FeedsUntil c (Some i) e s es
+  begun_until i request rest e s es f p (inl t) = fed_some i e s es p (record { left = request ∷ rest; requests = f ∙ ap (λ l. l ++ request ∷ rest) (sym t) })
+  begun_until i request rest e s es f p (inr t) = fed_some i e s es p (record { left = rest; requests = f ∙ ap (λ l. l ++ rest) (sym t) })
 
-  taken_or : (b : Bool) (payload : List ℕ) → ((if b then [] else payload ∷ []) ≡ []) ⊎ ((if b then [] else payload ∷ []) ≡ payload ∷ [])
-  taken_or true payload = inl refl
-  taken_or false payload = inr refl
+  taken_or : (b : Bool) (request : Request) → ((if b then [] else request ∷ []) ≡ []) ⊎ ((if b then [] else request ∷ []) ≡ request ∷ [])
+  taken_or true request = inl refl
+  taken_or false request = inr refl
 
-  begun_takes : (name payload : List ℕ) (s : State) (es : List Event) → IsBegun (events.Append name payload) s es → (taken_of c s es ≡ []) ⊎ (taken_of c s es ≡ payload ∷ [])
-  begun_takes name payload s es (inl h) = inl (ap (taken_of c s) h)
-  begun_takes name payload s es (inr h) =
-      let t : taken_of c s es ≡ taken_by c s (events.Append name payload) = ap (taken_of c s) h ∙ append-nil (taken_by c s (events.Append name payload)) in
-      elim (taken_or (finds_full c s (events.Append name payload)) payload) [ inl x ↦ inl (t ∙ x) | inr x ↦ inr (t ∙ x) ]
+  request_takes : (name : List ℕ) (request : Request) (s : State) → taken_by c s (request_event name request) ≡ (if finds_full c s (request_event name request) then [] else request ∷ [])
+  request_takes name (asks.Append payload) s = refl
+  request_takes name (asks.Trim point) s = refl
 
-  pub one_until : (i j : Option Input) (name payload : List ℕ) (e : Ended) (s : State) (es : List Event) → NextIs i j (Ok (Some payload)) → IsPartly e → IsBegun (events.Append name payload) s es → FeedsUntil c i e s es
-  one_until None j name payload e s es x p h = tt
-  one_until (Some i) j name payload e s es x p h = begun_until i payload x.rest e s es x.first p (begun_takes name payload s es h)
+  one_takes : (name : List ℕ) (request : Request) (s : State) (es : List Event) → es ≡ request_event name request ∷ [] → taken_of c s es ≡ (if finds_full c s (request_event name request) then [] else request ∷ [])
+  one_takes name request s es h = ap (taken_of c s) h ∙ (append-nil (taken_by c s (request_event name request)) ∙ request_takes name request s)
+
+  begun_takes : (name : List ℕ) (request : Request) (s : State) (es : List Event) → IsAsking name request s es → (taken_of c s es ≡ []) ⊎ (taken_of c s es ≡ request ∷ [])
+  begun_takes name request s es (may, inl h) = inl (ap (taken_of c s) h)
+  begun_takes name request s es (may, inr h) =
+      let t = one_takes name request s es h in
+      elim (taken_or (finds_full c s (request_event name request)) request) [ inl x ↦ inl (t ∙ x) | inr x ↦ inr (t ∙ x) ]
+
+  pub one_until : (i j : Option Input) (name : List ℕ) (request : Request) (e : Ended) (s : State) (es : List Event) → NextIs i j (Ok (Some request)) → IsPartly e → IsAsking name request s es → FeedsUntil c i e s es
+  one_until None j name request e s es x p h = tt
+  one_until (Some i) j name request e s es x p h = begun_until i request x.rest e s es x.first p (begun_takes name request s es h)
 
   pub feeds_end : (i j k : Option Input) (s : State) (es : List Event) → Feeds c i j s es → Feeds c j k (state_after c s es) [] → Feeds c i k s es
   feeds_end i j k s es a b = subst (λ (l : List Event). Feeds c i k s l) (append-nil es) (feeds_join i j k s es [] a b)
@@ -367,7 +396,7 @@ module _ (c : Config) where
   -- what takes none
   pub feeds_none : (i : Option Input) (s : State) (es : List Event) → taken_of c s es ≡ [] → Feeds c i i s es
   feeds_none None s es t = tt
-  feeds_none (Some i) s es t = record { left = i; now = refl; payloads = ap (λ l. l ++ i.payloads) (sym t); off = refl }
+  feeds_none (Some i) s es t = record { left = i; now = refl; requests = ap (λ l. l ++ i.requests) (sym t); off = refl }
 
   pub retry_feeds : (i : Option Input) (name : List ℕ) (b : Bool) (s : State) (es : List Event) → MayRetry name b s es → Feeds c i i s es
   retry_feeds i name b s es h = feeds_none i s es (retry_takes name b s es h)
@@ -376,13 +405,13 @@ module _ (c : Config) where
   may_retry name true s es h = h
   may_retry name false s es h = inr h
 
-  -- what an append takes, by the lines of its step
-  pub takes_by : (name payload : List ℕ) (s : State) (es : List Event) (b : Bool) (ls : List Line) → es ≡ events.Append name payload ∷ [] → b ≡ tells_full ls → ls ≡ (happens c s (events.Append name payload)).lines → taken_of c s es ≡ (if b then [] else payload ∷ [])
-  takes_by name payload s es b ls h t l = ap (taken_of c s) h ∙ (append-nil (taken_by c s (events.Append name payload)) ∙ ap (λ (x : Bool). if x then [] else payload ∷ []) (sym (t ∙ ap tells_full l)))
+  -- what a request takes, by the lines of its step
+  pub takes_by : (name : List ℕ) (request : Request) (s : State) (es : List Event) (b : Bool) (ls : List Line) → es ≡ request_event name request ∷ [] → b ≡ tells_full ls → ls ≡ (happens c s (request_event name request)).lines → taken_of c s es ≡ (if b then [] else request ∷ [])
+  takes_by name request s es b ls h t l = one_takes name request s es h ∙ ap (λ (x : Bool). if x then [] else request ∷ []) (sym (t ∙ ap tells_full l))
 
-  pub begun_appends : (name payload : List ℕ) (s : State) (es : List Event) → IsBegun (events.Append name payload) s es → AreAppends name s es
-  begun_appends name payload s es (inl h) = subst (λ (l : List Event). AreAppends name s l) (sym h) tt
-  begun_appends name payload s es (inr h) = subst (λ (l : List Event). AreAppends name s l) (sym h) (refl, tt)
+  pub begun_requests : (name : List ℕ) (request : Request) (s : State) (es : List Event) → IsAsking name request s es → AreRequests name c s es
+  begun_requests name request s es (may, inl h) = subst (λ (l : List Event). AreRequests name c s l) (sym h) tt
+  begun_requests name request s es (may, inr h) = subst (λ (l : List Event). AreRequests name c s l) (sym h) (may, tt)
 
   -- ---- room in the window ----
 
@@ -404,13 +433,15 @@ module _ (c : Config) where
   fills_as P Q s es f (inl h) = inl (h.0, f h.1)
   fills_as P Q s es f (inr h) = inr h
 
+  pub prepared_as : (name : List ℕ) (P Q : Type 0) (b : Bool) (s : State) (es : List Event) → (P → Q) → IsPrepared name c P b s es → IsPrepared name c Q b s es
+  prepared_as name P Q b s es f h = splits_as (IsRetry name b) (AreFilling name c P) (IsRetry name b) (AreFilling name c Q) s es (λ u l y. y) (λ u l y. (y.0, fills_as P Q u l f y.1)) h
+
   pub round_as : (name : List ℕ) (P Q : Type 0) (first : ℕ) (ys : List ℕ) (b : Bool) (s : State) (es : List Event) → (P → Q) → IsAppendRound name c P first ys b s es → IsAppendRound name c Q first ys b s es
   round_as name P Q first ys b s es f h =
-      splits_as (IsPrepared name c P b) (AreVisits c first ys) (IsPrepared name c Q b) (AreVisits c first ys) s es
-      (λ t fs x. splits_as (IsRetry name b) (AreFilling name c P) (IsRetry name b) (AreFilling name c Q) t fs (λ u l y. y) (λ u l y. (y.0, fills_as P Q u l f y.1)) x) (λ t fs x. x) h
+      splits_as (IsPrepared name c P b) (AreVisits c first ys) (IsPrepared name c Q b) (AreVisits c first ys) s es (λ t fs x. prepared_as name P Q b t fs f x) (λ t fs x. x) h
 
   -- a round is a part of one
   pub round_part : (name : List ℕ) (P : Type 0) (first : ℕ) (ys : List ℕ) (b : Bool) (s : State) (es : List Event) → IsAppendRound name c P first ys b s es → IsAppendPart name c b s es
   round_part name P first ys b s es h =
-      splits_as (IsPrepared name c P b) (AreVisits c first ys) (Splits (MayRetry name b) (AreAppends name) c) (Calm c) s es
-      (λ t fs x. splits_as (IsRetry name b) (AreFilling name c P) (MayRetry name b) (AreAppends name) t fs (may_retry name b) (λ u l y. y.0) x) (visits_calm first ys) h
+      splits_as (IsPrepared name c P b) (AreVisits c first ys) (Splits (MayRetry name b) (AreRequests name c) c) (Calm c) s es
+      (λ t fs x. splits_as (IsRetry name b) (AreFilling name c P) (MayRetry name b) (AreRequests name c) t fs (may_retry name b) (λ u l y. y.0) x) (visits_calm first ys) h

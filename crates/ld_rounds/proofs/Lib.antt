@@ -4,6 +4,7 @@ pub mod Endings
 pub mod Feeding
 pub mod Going
 pub mod Joining
+pub mod Listening
 pub mod News
 pub mod Polling
 pub mod Queueing

@@ -1,5 +1,5 @@
 -- The steps that a drive takes.
-use Rattle.std.proofs.Common.{◌≡◌, ℕ, ◌+◌, Bool, true, false, ◌&&◌, List, [], ◌∷◌, ◌++◌, Option, Some, None, refl, ap, sym, ◌∙◌, subst, inl, inr, append_assoc, if◌then◌else◌}
+use Rattle.std.proofs.Common.{◌≡◌, ℕ, ◌+◌, Bool, true, false, ◌&&◌, List, [], ◌∷◌, ◌++◌, Option, Some, None, refl, ap, sym, ◌∙◌, subst, inl, inr, append_assoc, arith, if◌then◌else◌}
 use Rattle.std.specs.List.{AllByRecursion}
 use Rattle.std.proofs.lemmas.Bool.{eq-eqb}
 use Rattle.std.proofs.lemmas.List.{append-nil}
@@ -25,8 +25,12 @@ use Rattle.ld_machine.specs.Step as machine
 use Rattle.ld_machine.specs.Step.{happens, delivers, comes_to, marked, to_node, is_written, kept_lines}
 use Rattle.ld_machine.specs.Run.{step, state_after, lines_of}
 use Rattle.ld_dial.specs.Far.{alone, handed}
+use Rattle.ld_bounds.specs.Sound.{IsEvent}
 use Rattle.ld_rounds.specs.News.{is_answer}
-use Rattle.ld_rounds.specs.Telling.{is_answered, AnswersOnce}
+use Rattle.ld_rounds.specs.Requests.{request_event}
+use Rattle.ld_rounds.specs.declared.request.Request.{Request}
+use Rattle.ld_rounds.specs.declared.request.Request.TheVariants as asks
+use Rattle.ld_rounds.specs.Telling.{is_answered, AnswersOf}
 use Rattle.ld_rounds.specs.Drives.{is_own, own_lines, Driver, MayLose, IsDriven, AreDriven, Goes}
 use Rattle.ld_rounds.proofs.Joining.{Joins, after-append}
 
@@ -74,6 +78,7 @@ driven_if who one other c s (e ∷ es) f d = (event_if e d.0, driven_if who one 
     event_if : (x : Event) → IsDriven who one s x → IsDriven who other s x
     event_if (events.Activate n l) h = h
     event_if (events.Append n payload) h = h
+    event_if (events.Trim n point) h = h
     event_if (events.Retry n) h = h
     event_if (events.Open n l from until) h = h
     event_if (events.OpenOne n l from until) h = h
@@ -186,23 +191,23 @@ answers_from c s n m =
     (handles_from _ n m (machine.node_handles n (node_at s n) m).op (machine.node_handles n (node_at s n) m).answer)
 
 -- it answers at most once
-answer_once : (n : ℕ) (m : Msg) (b : Option Body) → AnswersOnce n (answer_message n m b)
-answer_once n m None = tt
-answer_once n m (Some b) = eq-eqb n n refl
+answer_once : (n : ℕ) (m : Msg) (b : Option Body) → AnswersOf n 1 (answer_message n m b)
+answer_once n m None = (omega arith, tt)
+answer_once n m (Some b) = (omega arith, (eq-eqb n n refl, tt))
 
-when_once : (n : ℕ) (b : Bool) (ms : List Msg) → AnswersOnce n ms → AnswersOnce n (if b then ms else [])
+when_once : (n : ℕ) (b : Bool) (ms : List Msg) → AnswersOf n 1 ms → AnswersOf n 1 (if b then ms else [])
 when_once n true ms a = a
-when_once n false ms a = tt
+when_once n false ms a = (omega arith, tt)
 
-handles_once : (s : State) (n : ℕ) (m : Msg) (o : Option Op) (b : Option Body) → AnswersOnce n (machine.handles s n m o b).sends
+handles_once : (s : State) (n : ℕ) (m : Msg) (o : Option Op) (b : Option Body) → AnswersOf n 1 (machine.handles s n m o b).sends
 handles_once s n m None b = answer_once n m b
 handles_once s n m (Some o) b = when_once n (is_written (keep_end (node_at s n) o)) (answer_message n m b) (answer_once n m b)
 
-once_by : (n : ℕ) (b : Bool) (s : State) (d : Done) → AnswersOnce n d.sends → AnswersOnce n (if b then d else unchanged s).sends
+once_by : (n : ℕ) (b : Bool) (s : State) (d : Done) → AnswersOf n 1 d.sends → AnswersOf n 1 (if b then d else unchanged s).sends
 once_by n true s d h = h
-once_by n false s d h = tt
+once_by n false s d h = (omega arith, tt)
 
-pub answers_once : (c : Config) (s : State) (n : ℕ) (m : Msg) → AnswersOnce n (to_node c s n m).sends
+pub answers_once : (c : Config) (s : State) (n : ℕ) (m : Msg) → AnswersOf n 1 (to_node c s n m).sends
 answers_once c s n m =
     once_by n (is_up (node_at s n).status && has_log c m.log) s _
     (handles_once _ n m (machine.node_handles n (node_at s n) m).op (machine.node_handles n (node_at s n) m).answer)
@@ -244,9 +249,18 @@ pub open_is : (c : Config) (s : State) (name : List ℕ) (l from until : ℕ) �
 unfolding step
 open_is c s name l from until = refl
 
-pub append_is : (c : Config) (s : State) (name payload : List ℕ) → step c s (events.Append name payload) ≡ finish (happens c s (events.Append name payload))
+pub request_is : (c : Config) (s : State) (name : List ℕ) (request : Request) → step c s (request_event name request) ≡ finish (happens c s (request_event name request))
 unfolding step
-append_is c s name payload = refl
+request_is c s name (asks.Append payload) = refl
+request_is c s name (asks.Trim point) = refl
+
+pub request_driven : (who : Driver) (broken : Type 0) (s : State) (request : Request) → IsDriven who broken s (request_event who.name request)
+request_driven who broken s (asks.Append payload) = refl
+request_driven who broken s (asks.Trim point) = refl
+
+pub request_bound : (name : List ℕ) (request : Request) → IsEvent (request_event name request)
+request_bound name (asks.Append payload) = tt
+request_bound name (asks.Trim point) = tt
 
 pub retry_is : (c : Config) (s : State) (name : List ℕ) → step c s (events.Retry name) ≡ finish (happens c s (events.Retry name))
 unfolding step

@@ -1,5 +1,5 @@
 -- A node is visited.
-use Rattle.std.proofs.Common.{◌≡◌, ◌⊎◌, ◌≤◌, ◌==◌, ◌||◌, ℕ, zero, suc, Bool, true, false, List, [], ◌∷◌, ◌++◌, set, Option, Some, None, Ok, Err, refl, ap, sym, ◌∙◌, subst, inl, inr, arith}
+use Rattle.std.proofs.Common.{◌≡◌, ◌⊎◌, ◌≤◌, ◌+◌, ◌==◌, ◌||◌, ℕ, zero, suc, Bool, true, false, List, [], ◌∷◌, ◌++◌, set, Option, Some, None, Ok, Err, refl, ap, sym, ◌∙◌, subst, inl, inr, arith}
 use Rattle.std.specs.declared.result.Result.{Result}
 use Rattle.std.specs.List.{AllByRecursion}
 use Rattle.std.proofs.lemmas.Bool.{eq-eqb}
@@ -15,8 +15,9 @@ use Rattle.ld_dial.specs.declared.fault.Fault.{Fault}
 use Rattle.ld_dial.specs.declared.fault.Fault.TheVariants as faults
 use Rattle.ld_dial.specs.Far.{Far, alone, handed, IsHanded, Receives, SendsTo, CountsFault, CountsEnding}
 use Rattle.ld_rounds.specs.Queued.{queue_of, behind, waits}
-use Rattle.std.proofs.lemmas.List.{set-get_or}
-use Rattle.ld_rounds.specs.Telling.{is_of, is_answered, missed_by, AnswersOnce}
+use Rattle.std.proofs.lemmas.List.{set-get_or, length-append}
+use Rattle.ld_rounds.specs.Telling.{is_of, is_answered, missed_by, AnswersOf}
+use Rattle.ld_rounds.specs.Listening.{unsent_by, due_with}
 use Rattle.ld_rounds.specs.Drives.{Driver, AreOfConfig, IsBroken, AreLater, IsApart, Holds, Went, GoesOn, WithNode, Answering}
 use Rattle.ld_rounds.specs.Acts.{Own, IsDriverOf}
 use Rattle.ld_rounds.proofs.News.{first_waits}
@@ -109,15 +110,38 @@ all_in (x ∷ xs) = (ap (λ b. b || is_in x xs) (eq-eqb x x refl), in_more x xs 
 pub all_there : (c : Config) → AreOfConfig c (members c.nodes)
 all_there c = all_in (members c.nodes)
 
--- ---- one answer ----
+-- ---- answers that are due ----
 
-pub only_one : (y : ℕ) (m : Msg) (rest : List Msg) → AnswersOnce y (m ∷ rest) → rest ≡ []
-only_one y m [] h = refl
-only_one y m (x ∷ xs) h = absurd h
+pub answers_more : (y k n : ℕ) (xs ys : List Msg) → AnswersOf y k xs → AnswersOf y n ys → AnswersOf y (k + n) (xs ++ ys)
+answers_more y k n xs ys a b = (omega (arith, length-append xs ys, a.0, b.0), each xs a.1)
+  where
+    each : (zs : List Msg) → AllByRecursion (λ m. is_of y m.from ≡ true) zs → AllByRecursion (λ m. is_of y m.from ≡ true) (zs ++ ys)
+    each [] h = b.1
+    each (z ∷ zs) h = (h.0, each zs h.1)
 
-pub its_own : (y : ℕ) (m : Msg) (rest : List Msg) → AnswersOnce y (m ∷ rest) → is_of y m.from ≡ true
-its_own y m [] h = h
-its_own y m (x ∷ xs) h = absurd h
+pub rest_due : (y n : ℕ) (m : Msg) (rest : List Msg) → AnswersOf y (n + 1) (m ∷ rest) → AnswersOf y n rest
+rest_due y n m rest a = (omega (arith, a.0), a.1.1)
+
+pub its_own : (y n : ℕ) (m : Msg) (rest : List Msg) → AnswersOf y n (m ∷ rest) → is_of y m.from ≡ true
+its_own y n m rest a = a.1.0
+
+none_left : (y : ℕ) (ms : List Msg) → AnswersOf y 0 ms → ms ≡ []
+none_left y [] a = refl
+none_left y (m ∷ ms) a = absurd (omega (arith, a.0))
+
+pub none_due : (y n : ℕ) (ms : List Msg) → n ≡ 0 → AnswersOf y n ms → ms ≡ []
+none_due y n ms e a = none_left y ms (subst (λ (k : ℕ). AnswersOf y k ms) e a)
+
+pub due_none : (y n : ℕ) (ms : List Msg) → ms ≡ [] → AnswersOf y n ms
+due_none y n ms e = subst (λ (l : List Msg). AnswersOf y n l) (sym e) (omega arith, tt)
+
+-- where none is to be taken, any number may be due
+pub may_answer : (tells : Config → Far → Type 0) (c : Config) (y n : ℕ) (far : Far) → WithNode tells c y far → Answering tells c y n far
+may_answer tells c y n far t = (t.0.0, t.1, due_none y n far.answers t.0.1)
+
+-- where none is due, none is to be taken
+pub has_answered : (tells : Config → Far → Type 0) (c : Config) (y n : ℕ) (far : Far) → n ≡ 0 → Answering tells c y n far → WithNode tells c y far
+has_answered tells c y n far e t = ((t.0, none_due y n far.answers e t.2), t.1)
 
 -- it drives the same actor
 pub drives_on : (who : Driver) (a b : Own) → IsDriverOf who a → b ≡ a → IsDriverOf who b
@@ -133,7 +157,7 @@ module _ (who : Driver) (broken : Type 0) (c : Config) (first : ℕ) (b : IsInBo
       → Went who broken (Visiting c y) A (λ now. now ≡ record far { answers = rest }) c first s qs w w
   ignored y far qs m rest w e untaken h = went_visiting who broken c first b y A (λ now. now ≡ record far { answers = rest }) s (record far { answers = rest }) qs w refl (lose_answer who broken c first b A apart s far qs m rest h e untaken)
 
-  module _ (tells : Config → Far → Type 0) (far : Far) (y : ℕ) (present : far.present ≡ Some y) (none : far.answers ≡ []) (is : IsNode y) (w : Option (List ℕ)) where
+  module _ (tells : Config → Far → Type 0) (far : Far) (y due : ℕ) (present : far.present ≡ Some y) (of : AnswersOf y due far.answers) (is : IsNode y) (w : Option (List ℕ)) where
     -- what stands there once the node has handled a message
     abbrev handled : Msg → Far
     handled m = record { nodes = (handed c far.nodes y m).state.nodes; present = Some y; answers = far.answers ++ (handed c far.nodes y m).sends }
@@ -141,34 +165,36 @@ module _ (who : Driver) (broken : Type 0) (c : Config) (first : ℕ) (b : IsInBo
     told_of : (m : Msg) → IsHanded c far m (tells c) → tells c (handled m)
     told_of m i = subst (λ n. tells c (record { nodes = (handed c far.nodes n m).state.nodes; present = Some n; answers = far.answers ++ (handed c far.nodes n m).sends })) (some_is (sym i.present ∙ present)) i.told
 
-    handed_as : (U : Far → Type 0) (qs : List (List Msg)) (m : Msg) (rest : List Msg) → Holds A c first s far qs → queue_of qs y ≡ m ∷ rest → U (handled m) → Went who broken (Visiting c y) A U c first s (set qs y rest) w w
-    handed_as U qs m rest h q u = went_visiting who broken c first b y A U s (handled m) (set qs y rest) w u (hand_first who broken c first b A apart s far qs y m rest h is q (first_waits first s.network qs far.answers y m rest h.news is q))
+    handed_as : (n : ℕ) (qs : List (List Msg)) (m : Msg) (rest : List Msg) → Holds A c first s far qs → queue_of qs y ≡ m ∷ rest → AnswersOf y n (handed c far.nodes y m).sends → IsHanded c far m (tells c) → Went who broken (Visiting c y) A (Answering tells c y (due + n)) c first s (set qs y rest) w w
+    handed_as n qs m rest h q a i =
+        went_visiting who broken c first b y A (Answering tells c y (due + n)) s (handled m) (set qs y rest) w (told_of m i, refl, answers_more y due n far.answers (handed c far.nodes y m).sends of a)
+        (hand_first who broken c first b A apart s far qs y m rest h is q (first_waits first s.network qs far.answers y m rest h.news is q))
 
     -- the first message is handled by the node
-    pub handed_on : (qs : List (List Msg)) (m : Msg) (rest : List Msg) → Holds A c first s far qs → queue_of qs y ≡ m ∷ rest → IsHanded c far m (tells c) → Went who broken (Visiting c y) A (Answering tells c y) c first s (set qs y rest) w w
-    handed_on qs m rest h q i = handed_as (Answering tells c y) qs m rest h q (told_of m i, refl, subst (λ ans. AnswersOnce y (ans ++ (handed c far.nodes y m).sends)) (sym none) (answers_once c (alone far.nodes) y m))
+    pub handed_on : (qs : List (List Msg)) (m : Msg) (rest : List Msg) → Holds A c first s far qs → queue_of qs y ≡ m ∷ rest → IsHanded c far m (tells c) → Went who broken (Visiting c y) A (Answering tells c y (due + 1)) c first s (set qs y rest) w w
+    handed_on qs m rest h q i = handed_as 1 qs m rest h q (answers_once c (alone far.nodes) y m) i
 
     -- it is of a kind that no node answers
-    pub handed_quietly : (qs : List (List Msg)) (m : Msg) (rest : List Msg) → Holds A c first s far qs → queue_of qs y ≡ m ∷ rest → is_answered m.body ≡ false → IsHanded c far m (tells c) → Went who broken (Visiting c y) A (WithNode tells c y) c first s (set qs y rest) w w
-    handed_quietly qs m rest h q kind i = handed_as (WithNode tells c y) qs m rest h q ((told_of m i, ap (λ ans. ans ++ (handed c far.nodes y m).sends) none ∙ answers_none c (alone far.nodes) y m kind), refl)
+    pub handed_quietly : (qs : List (List Msg)) (m : Msg) (rest : List Msg) → Holds A c first s far qs → queue_of qs y ≡ m ∷ rest → is_answered m.body ≡ false → IsHanded c far m (tells c) → Went who broken (Visiting c y) A (Answering tells c y (due + 0)) c first s (set qs y rest) w w
+    handed_quietly qs m rest h q kind i = handed_as 0 qs m rest h q (due_none y 0 (handed c far.nodes y m).sends (answers_none c (alone far.nodes) y m kind)) i
 
     -- the first message is lost
-    pub gone_on : broken → (qs : List (List Msg)) (m : Msg) (rest : List Msg) → Holds A c first s far qs → queue_of qs y ≡ m ∷ rest → tells c far → Went who broken (Visiting c y) A (WithNode tells c y) c first s (set qs y rest) w w
-    gone_on why qs m rest h q t = went_visiting who broken c first b y A (WithNode tells c y) s far (set qs y rest) w ((t, none), present) (lose_first who broken c first b A apart why s far qs y m rest h is q)
+    gone_on : broken → (qs : List (List Msg)) (m : Msg) (rest : List Msg) → Holds A c first s far qs → queue_of qs y ≡ m ∷ rest → tells c far → Went who broken (Visiting c y) A (Answering tells c y due) c first s (set qs y rest) w w
+    gone_on why qs m rest h q t = went_visiting who broken c first b y A (Answering tells c y due) s far (set qs y rest) w (t, present, of) (lose_first who broken c first b A apart why s far qs y m rest h is q)
+
+    -- it isn't sent
+    pub unsent : (quiet : Bool) (m : Msg) (rest : List Msg) (qs : List (List Msg)) (f : Fault) (before count : ℕ) → CountsFault {T = Unit {0}} before count (Err f) → (Rose before count → broken) → Holds A c first s far qs → queue_of qs y ≡ m ∷ rest → SendsTo c far m quiet (tells c) (Err f)
+        → (quiet ≡ true) ⊎ GoesOn who broken (Visiting c y) (VisitEnd c y) A (Answering tells c y (due_with due (unsent_by f))) c first s (set qs y rest) w w (unsent_by f)
+    unsent quiet m rest qs faults.Link before count rose why h q (inl gone) = inr (gone_on (why rose.0) qs m rest h q gone.told)
+    unsent quiet m rest qs faults.Link before count rose why h q (inr silent) = inl silent
+    unsent quiet m rest qs (faults.BadFrame fault) before count rose why h q sent = absurd sent
+    unsent quiet m rest qs faults.NoMemory before count rose why h q sent = inr (stopped_here who broken c first b (Visiting c y) s w (tt, tt))
 
   -- nothing is taken
   pub unheard : (y : ℕ) (T U : Far → Type 0) (far : Far) (qs : List (List Msg)) (w : Option (List ℕ)) (f : Fault) → Receives far T (Err f) → GoesOn who broken (Visiting c y) (VisitEnd c y) A U c first s qs w w (missed_by f)
   unheard y T U far qs w faults.Link h = absurd h
   unheard y T U far qs w (faults.BadFrame fault) h = absurd h
   unheard y T U far qs w faults.NoMemory h = stopped_here who broken c first b (Visiting c y) s w (tt, tt)
-
-  -- nothing is sent
-  pub unsent : (tells : Config → Far → Type 0) (quiet : Bool) (far : Far) (y : ℕ) (m : Msg) (rest : List Msg) (qs now : List (List Msg)) (w : Option (List ℕ)) (f : Fault) (before count : ℕ) → CountsFault {T = Unit {0}} before count (Err f) → (Rose before count → broken) → far.present ≡ Some y → far.answers ≡ [] → IsNode y → Holds A c first s far qs
-      → queue_of qs y ≡ m ∷ rest → now ≡ set qs y rest → SendsTo c far m quiet (tells c) (Err f) → (quiet ≡ true) ⊎ GoesOn who broken (Visiting c y) (VisitEnd c y) A (WithNode tells c y) c first s now w w (missed_by f)
-  unsent tells quiet far y m rest qs now w faults.Link before count rose why present none is h q e (inl gone) = inr (subst (λ (x : List (List Msg)). Went who broken (Visiting c y) A (WithNode tells c y) c first s x w w) (sym e) (gone_on tells far y present none is w (why rose.0) qs m rest h q gone.told))
-  unsent tells quiet far y m rest qs now w faults.Link before count rose why present none is h q e (inr silent) = inl silent
-  unsent tells quiet far y m rest qs now w (faults.BadFrame fault) before count rose why present none is h q e sent = absurd sent
-  unsent tells quiet far y m rest qs now w faults.NoMemory before count rose why present none is h q e sent = inr (stopped_here who broken c first b (Visiting c y) s w (tt, tt))
 
   -- a node is dialed
   pub dialed : (tells : Config → Far → Type 0) (far : Far) (y : ℕ) (qs : List (List Msg)) (w : Option (List ℕ)) → far.answers ≡ [] → Holds A c first s far qs → tells c (record { nodes = far.nodes; present = Some y; answers = [] }) → Went who broken (Visiting c y) A (WithNode tells c y) c first s qs w w

@@ -39,7 +39,7 @@ all_written a b bytes p = record { part = bytes; missing = []; written = p; whol
 pub none_written : (a : Option (List ℕ)) (bytes : List ℕ) → AppendsPart a a bytes
 none_written a bytes = record { part = []; missing = bytes; written = Appends-nil a; whole = refl }
 
-text-append : (xs ys : List Line) → text (xs ++ ys) ≡ text xs ++ text ys
+pub text-append : (xs ys : List Line) → text (xs ++ ys) ≡ text xs ++ text ys
 text-append xs ys = flat_map-append line_text xs ys
 
 pub lines_on : (a b c : Option (List ℕ)) (xs ys : List Line) → Appends a b (text xs) → Appends b c (text ys) → Appends a c (text (xs ++ ys))

@@ -23,7 +23,7 @@ use Rattle.ld_rounds.specs.declared.ended.Ended.{Ended}
 use Rattle.ld_rounds.specs.declared.ended.Ended.TheVariants as ends
 use Rattle.ld_rounds.specs.News.{is_answer, AreNews}
 use Rattle.ld_rounds.specs.Output.{AppendsPart}
-use Rattle.ld_rounds.specs.Telling.{AnswersOnce}
+use Rattle.ld_rounds.specs.Telling.{AnswersOf}
 
 -- a line of an actor, and not of a node, of what is set, of a message or of a step without lines
 abbrev pub is_own : Line → Bool
@@ -79,6 +79,7 @@ pub record Driver : Type 0 where
 abbrev pub IsDriven : Driver → Type 0 → State → Event → Type 0
 IsDriven who broken s (events.Activate n l) = n ≡ who.name
 IsDriven who broken s (events.Append n payload) = n ≡ who.name
+IsDriven who broken s (events.Trim n point) = n ≡ who.name
 IsDriven who broken s (events.Retry n) = n ≡ who.name
 IsDriven who broken s (events.Open n l from until) = n ≡ who.name
 IsDriven who broken s (events.OpenOne n l from until) = n ≡ who.name
@@ -176,6 +177,6 @@ AllTaken tells far = tells far × (far.answers ≡ [])
 abbrev pub WithNode : (Config → Far → Type 0) → Config → ℕ → Far → Type 0
 WithNode tells c y far = AllTaken (tells c) far × (far.present ≡ Some y)
 
--- the nodes are told of, this one is present, and at most one answer of it is to be taken
-abbrev pub Answering : (Config → Far → Type 0) → Config → ℕ → Far → Type 0
-Answering tells c y far = tells c far × (far.present ≡ Some y) × AnswersOnce y far.answers
+-- the nodes are told of, this one is present, and so many answers at most are to be taken, all of it
+abbrev pub Answering : (Config → Far → Type 0) → Config → ℕ → ℕ → Far → Type 0
+Answering tells c y n far = tells c far × (far.present ≡ Some y) × AnswersOf y n far.answers

@@ -5,31 +5,32 @@ use Rattle.std.specs.declared.result.Result.TheVariants.{Ok, Err}
 use Rattle.ld_io.specs.Causes.{Rose}
 use Rattle.ld_rounds.specs.declared.ended.Ended.{Ended}
 use Rattle.ld_rounds.specs.declared.ended.Ended.TheVariants as ends
+use Rattle.ld_rounds.specs.declared.request.Request.{Request}
 use Rattle.ld_rounds.specs.Endings.{IsEnding}
 use Rattle.ld_rounds.specs.Input.{Input, all_taken, GivesNext, ComesTo, IsOff}
 
 -- ---- what is still to come ----
 
--- the payload that is held comes first
-abbrev pub upcoming : Option (List ℕ) → Option Input → Option Input
+-- the request that is held comes first
+abbrev pub upcoming : Option Request → Option Input → Option Input
 upcoming None coming = coming
-upcoming (Some payload) None = None
-upcoming (Some payload) (Some input) = Some (record input { payloads = payload ∷ input.payloads })
+upcoming (Some request) None = None
+upcoming (Some request) (Some input) = Some (record input { requests = request ∷ input.requests })
 
 -- what the next one is
-abbrev pub NextIs : Option Input → Option Input → Result (Option (List ℕ)) Ended → Type 0
+abbrev pub NextIs : Option Input → Option Input → Result (Option Request) Ended → Type 0
 NextIs None new result = Unit {0}
-NextIs (Some old) new (Ok (Some payload)) = GivesNext old new payload
+NextIs (Some old) new (Ok (Some request)) = GivesNext old new request
 NextIs (Some old) new (Ok None) = (old ≡ all_taken) × (new ≡ Some all_taken)
 NextIs (Some old) new (Err (ends.BadLine line place)) = IsOff old line place
 NextIs (Some old) new (Err _) = Unit {0}
 
--- some of the payloads are still to come, and behind them the same as before
+-- some of the requests are still to come, and behind them the same as before
 pub record IsAhead (old : Input) (new : Option Input) : Type 0 where
   pub left : Input
   pub now : new ≡ Some left
-  pub front : List (List ℕ)
-  pub payloads : old.payloads ≡ front ++ left.payloads
+  pub front : List Request
+  pub requests : old.requests ≡ front ++ left.requests
   pub off : left.off ≡ old.off
 
 abbrev pub SameBehind : Option Input → Option Input → Type 0
@@ -41,10 +42,10 @@ abbrev pub StaysAs : Option Input → Option Input → Type 0
 StaysAs None new = Unit {0}
 StaysAs (Some old) new = new ≡ Some old
 
--- a payload came
+-- a request came
 abbrev pub HasCome : Option Input → Type 0
 HasCome None = Unit {0}
-HasCome (Some input) = input.payloads ≢ []
+HasCome (Some input) = input.requests ≢ []
 
 -- where it is told what came first, nothing more comes
 abbrev pub NoneComes : Option Input → Option Input → Type 0
@@ -58,7 +59,7 @@ WasOver origin true coming = NoneComes origin coming
 
 -- ---- why the drive ends ----
 
--- this line is off behind all payloads, at this place, where that is told
+-- this line is off behind all requests, at this place, where that is told
 abbrev pub IsOffBehind : Option Input → ℕ → ℕ → Type 0
 IsOffBehind coming line place = IfSome coming (λ input. ComesTo input line place)
 

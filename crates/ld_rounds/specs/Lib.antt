@@ -5,6 +5,7 @@ pub mod Ends
 pub mod Feeding
 pub mod Input
 pub mod Lines
+pub mod Listening
 pub mod News
 pub mod Output
 pub mod Pace
@@ -12,6 +13,7 @@ pub mod Queued
 pub mod Reaching
 pub mod Refusals
 pub mod Reminding
+pub mod Requests
 pub mod Rounds
 pub mod Taking
 pub mod Telling

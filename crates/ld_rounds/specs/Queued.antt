@@ -1,5 +1,5 @@
 -- Messages that wait for nodes: a queue for each number up to 16, the first message first. Nothing waits for number 0.
-use Rattle.std.specs.Prelude.{ℕ, ◌≡◌, List, [], ◌∷◌, ◌++◌, length, set, get_or, take, replicate, Bool, true, false}
+use Rattle.std.specs.Prelude.{ℕ, ◌≡◌, ◌≤◌, List, [], ◌∷◌, ◌++◌, length, set, get_or, take, drop, replicate, Bool, true, false}
 use Rattle.ld_msg.specs.declared.msg.Who.{Who}
 use Rattle.ld_msg.specs.declared.msg.Who.TheVariants as whos
 use Rattle.ld_msg.specs.declared.msg.Msg.{Msg}
@@ -47,6 +47,12 @@ are_empty ((m ∷ ms) ∷ queues) = false
 abbrev pub behind : List Msg → List Msg
 behind [] = []
 behind (m ∷ ms) = ms
+
+-- so many at most of the first messages that wait for the node are taken
+pub record TakesUpTo (most : ℕ) (before : List (List Msg)) (y : ℕ) (now : List (List Msg)) : Type 0 where
+  pub count : ℕ
+  pub few : count ≤ most
+  pub left : now ≡ set before y (drop count (queue_of before y))
 
 -- the first messages have come, and the others are left
 pub record IsPushing (all : List Msg) (before now : List (List Msg)) (done left : List Msg) : Type 0 where

@@ -1,4 +1,4 @@
--- Which steps a drive takes, round by round, and which payloads they took.
+-- Which steps a drive takes, round by round, and which requests they took.
 use Rattle.std.specs.Prelude.{ℕ, zero, suc, ◌≡◌, ◌⊎◌, ◌==◌, ◌&&◌, List, [], ◌∷◌, ◌++◌, Bool, true, false, Option, None, Some, if◌then◌else◌}
 use Rattle.std.specs.List.{AllByRecursion}
 use Rattle.ld_config.specs.declared.config.Config.{Config}
@@ -21,6 +21,9 @@ use Rattle.ld_rounds.specs.Ends.{tells_by, is_final}
 use Rattle.ld_rounds.specs.Input.{Input, ComesTo}
 use Rattle.ld_rounds.specs.Queued.{queue_of}
 use Rattle.ld_rounds.specs.News.{AreNews, some_wait}
+use Rattle.ld_rounds.specs.Requests.{request_event, is_waiting, IsRequestBy}
+use Rattle.ld_rounds.specs.declared.request.Request.{Request}
+use Rattle.ld_rounds.specs.declared.request.Request.TheVariants as asks
 
 -- ---- one part after the other ----
 
@@ -157,12 +160,18 @@ abbrev pub MayRetry : List ℕ → Bool → State → List Event → Type 0
 MayRetry name true s es = es ≡ []
 MayRetry name false s es = IsBegun (events.Retry name) s es
 
-abbrev pub IsAppendBy : List ℕ → Event → Type 0
-IsAppendBy name (events.Append n payload) = n ≡ name
-IsAppendBy name _ = ⊥
+-- appends, and trims, each of which comes where all is settled
+abbrev pub AreRequests : List ℕ → Config → State → List Event → Type 0
+AreRequests name c s [] = Unit {0}
+AreRequests name c s (e ∷ es) = IsRequestBy name s e × AreRequests name c (step c s e).state es
 
-abbrev pub AreAppends : List ℕ → State → List Event → Type 0
-AreAppends name s es = AllByRecursion (IsAppendBy name) es
+-- the request alone, when it may come
+abbrev pub IsAsked : List ℕ → Request → State → List Event → Type 0
+IsAsked name request s es = IsRequestBy name s (request_event name request) × IsOne (request_event name request) s es
+
+-- or none yet
+abbrev pub IsAsking : List ℕ → Request → State → List Event → Type 0
+IsAsking name request s es = IsRequestBy name s (request_event name request) × IsBegun (request_event name request) s es
 
 abbrev pub is_full_line : Line → Bool
 is_full_line (lines.RefusedWindowFull name) = true
@@ -196,19 +205,19 @@ pub record IsFull (c : Config) (s : State) (es : List Event) : Type 0 where
 abbrev pub Fills : Config → Type 0 → State → List Event → Type 0
 Fills c dry s es = (FindRoom c s es × dry) ⊎ Splits (FindRoom c) (IsFull c) c s es
 
--- the input is over, or doesn't tell that the next payload is ready
-abbrev pub IsDry : Bool → Option Bool → Type 0
-IsDry is_over ready = (is_over ≡ true) ⊎ (ready ≡ Some true → ⊥)
+-- the input is over, or doesn't tell that the next request is ready, or the one that is held is a trim, and has to wait
+abbrev pub IsDry : Bool → Option Bool → Option Request → Bool → Type 0
+IsDry is_over ready held settled = (is_over ≡ true) ⊎ (ready ≡ Some true → ⊥) ⊎ (is_waiting held settled ≡ true)
 
--- payloads are appended until one finds the window full, or no more is to be had
+-- requests are taken until one finds the window full, or no more is to be had
 abbrev pub AreFilling : List ℕ → Config → Type 0 → State → List Event → Type 0
-AreFilling name c dry s es = AreAppends name s es × Fills c dry s es
+AreFilling name c dry s es = AreRequests name c s es × Fills c dry s es
 
 -- so far
 abbrev pub FindingRoom : List ℕ → Config → State → List Event → Type 0
-FindingRoom name c s es = AreAppends name s es × FindRoom c s es
+FindingRoom name c s es = AreRequests name c s es × FindRoom c s es
 
--- it sends again, and payloads are appended so
+-- it sends again, and requests are taken so
 abbrev pub IsPrepared : List ℕ → Config → Type 0 → Bool → State → List Event → Type 0
 IsPrepared name c dry is_first s es = Splits (IsRetry name is_first) (AreFilling name c dry) c s es
 
@@ -218,7 +227,7 @@ IsAppendRound name c dry first ys is_first s es = Splits (IsPrepared name c dry 
 
 -- so far
 abbrev pub IsAppendPart : List ℕ → Config → Bool → State → List Event → Type 0
-IsAppendPart name c is_first s es = Splits (Splits (MayRetry name is_first) (AreAppends name) c) (Calm c) c s es
+IsAppendPart name c is_first s es = Splits (Splits (MayRetry name is_first) (AreRequests name c) c) (Calm c) c s es
 
 -- so many; which ones no more was to be had in isn't told
 abbrev pub AreAppendRounds : List ℕ → Config → ℕ → List ℕ → ℕ → State → List Event → Type 0
@@ -227,15 +236,16 @@ AreAppendRounds name c first ys n s es = AreRounds (λ k. IsAppendRound name c (
 abbrev pub AreReadRounds : Bool → List ℕ → Config → ℕ → List ℕ → ℕ → State → List Event → Type 0
 AreReadRounds sparing name c first ys n s es = AreRounds (λ k. IsReadRound sparing name c first ys) c n s es
 
--- ---- payloads ----
+-- ---- requests ----
 
--- an append takes its payload, unless the machine answers that the window is full
-abbrev pub taken_by : Config → State → Event → List (List ℕ)
-taken_by c s (events.Append name payload) = if finds_full c s (events.Append name payload) then [] else payload ∷ []
+-- an append takes its payload, unless the machine answers that the window is full; a trim takes its number, be it refused or not
+abbrev pub taken_by : Config → State → Event → List Request
+taken_by c s (events.Append name payload) = if finds_full c s (events.Append name payload) then [] else asks.Append payload ∷ []
+taken_by c s (events.Trim name point) = if finds_full c s (events.Trim name point) then [] else asks.Trim point ∷ []
 taken_by c s _ = []
 
--- the payloads that the appends took, in their order
-abbrev pub taken_of : Config → State → List Event → List (List ℕ)
+-- the requests that the events took, in their order
+abbrev pub taken_of : Config → State → List Event → List Request
 taken_of c s [] = []
 taken_of c s (e ∷ es) = taken_by c s e ++ taken_of c (step c s e).state es
 
@@ -243,7 +253,7 @@ taken_of c s (e ∷ es) = taken_by c s e ++ taken_of c (step c s e).state es
 pub record HasFed (c : Config) (old : Input) (new : Option Input) (s : State) (es : List Event) : Type 0 where
   pub left : Input
   pub now : new ≡ Some left
-  pub payloads : old.payloads ≡ taken_of c s es ++ left.payloads
+  pub requests : old.requests ≡ taken_of c s es ++ left.requests
   pub off : left.off ≡ old.off
 
 abbrev pub Feeds : Config → Option Input → Option Input → State → List Event → Type 0
@@ -252,14 +262,14 @@ Feeds c (Some old) new s es = HasFed c old new s es
 
 -- they are the first ones that were to come
 pub record HasFedSome (c : Config) (old : Input) (s : State) (es : List Event) : Type 0 where
-  pub left : List (List ℕ)
-  pub payloads : old.payloads ≡ taken_of c s es ++ left
+  pub left : List Request
+  pub requests : old.requests ≡ taken_of c s es ++ left
 
 -- where it is done, and where it comes to a line with a syntax error, all before are taken
 abbrev pub FeedsUntil : Config → Option Input → Ended → State → List Event → Type 0
 FeedsUntil c None ended s es = Unit {0}
-FeedsUntil c (Some old) ends.Done s es = (old.payloads ≡ taken_of c s es) × (old.off ≡ None)
-FeedsUntil c (Some old) (ends.BadLine line place) s es = (old.payloads ≡ taken_of c s es) × ComesTo old line place
+FeedsUntil c (Some old) ends.Done s es = (old.requests ≡ taken_of c s es) × (old.off ≡ None)
+FeedsUntil c (Some old) (ends.BadLine line place) s es = (old.requests ≡ taken_of c s es) × ComesTo old line place
 FeedsUntil c (Some old) _ s es = HasFedSome c old s es
 
 -- ---- both ----
@@ -267,23 +277,23 @@ FeedsUntil c (Some old) _ s es = HasFedSome c old s es
 abbrev pub Both : (State → List Event → Type 0) → (State → List Event → Type 0) → State → List Event → Type 0
 Both P Q s es = P s es × Q s es
 
--- appends of what came that all found room
+-- requests that came, for all of which there was room
 abbrev pub Adding : List ℕ → Config → Option Input → Option Input → State → List Event → Type 0
 Adding name c old new = Both (FindingRoom name c) (Feeds c old new)
 
--- appends of what came, and so until it ends
+-- requests that came, and so until it ends
 abbrev pub Adds : List ℕ → Config → Type 0 → Option Input → Option Input → State → List Event → Type 0
 Adds name c dry old new = Both (AreFilling name c dry) (Feeds c old new)
 
 abbrev pub AddsUntil : List ℕ → Config → Option Input → Ended → State → List Event → Type 0
-AddsUntil name c old ended = Both (AreAppends name) (FeedsUntil c old ended)
+AddsUntil name c old ended = Both (AreRequests name c) (FeedsUntil c old ended)
 
 -- the same with what is sent again before
 abbrev pub Prepares : List ℕ → Config → Type 0 → Bool → Option Input → Option Input → State → List Event → Type 0
 Prepares name c dry is_first old new = Both (IsPrepared name c dry is_first) (Feeds c old new)
 
 abbrev pub PreparesUntil : List ℕ → Config → Bool → Option Input → Ended → State → List Event → Type 0
-PreparesUntil name c is_first old ended = Both (Splits (MayRetry name is_first) (AreAppends name) c) (FeedsUntil c old ended)
+PreparesUntil name c is_first old ended = Both (Splits (MayRetry name is_first) (AreRequests name c) c) (FeedsUntil c old ended)
 
 -- the same with visits
 abbrev pub Rounds : List ℕ → Config → Type 0 → ℕ → List ℕ → Bool → Option Input → Option Input → State → List Event → Type 0

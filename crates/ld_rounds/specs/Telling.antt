@@ -1,5 +1,6 @@
 -- What is told of an actor, and which messages it hears.
-use Rattle.std.specs.Prelude.{ℕ, ◌≡◌, ◌==◌, List, [], ◌∷◌, Bool, true, false, Option, None, Some}
+use Rattle.std.specs.Prelude.{ℕ, ◌≡◌, ◌≤◌, ◌==◌, List, length, Bool, true, false, Option, None, Some}
+use Rattle.std.specs.List.{AllByRecursion}
 use Rattle.std.specs.Io.KnownBytes.{Appends}
 use Rattle.ld_transcript.specs.Text.{text}
 use Rattle.ld_msg.specs.declared.msg.Who.{Who}
@@ -29,11 +30,9 @@ abbrev pub is_of : ℕ → Who → Bool
 is_of y (whos.Node n) = n == y
 is_of y _ = false
 
--- at most one message, of this node
-abbrev pub AnswersOnce : ℕ → List Msg → Type 0
-AnswersOnce y [] = Unit {0}
-AnswersOnce y (m ∷ []) = is_of y m.from ≡ true
-AnswersOnce y (m ∷ n ∷ ms) = ⊥
+-- so many messages at most, all of this node
+abbrev pub AnswersOf : ℕ → ℕ → List Msg → Type 0
+AnswersOf y n ms = (length ms ≤ n) × AllByRecursion (λ m. is_of y m.from ≡ true) ms
 
 -- its messages wait for their nodes, its lines are written, and the drive ends by it or not
 pub record Told (heard : Heard) (end : Option Ended) (before now : List (List Msg)) (old new : Option (List ℕ)) : Type 0 where

@@ -1,9 +1,9 @@
-// A sequencer is driven over payloads.
-ghost use Rattle.std.specs.Prelude.{◌≡◌, ◌≤◌, ◌<◌, ◌⊎◌, ◌&&◌, ℕ, [], ◌∷◌, Bool, true, false, Option, None, IfOk, IfErr, IfSome, MatchOption, OnOk, OnErr, if◌then◌else◌, Some};
+// A sequencer is driven over payloads and trims.
+ghost use Rattle.std.specs.Prelude.{◌≡◌, ◌≤◌, ◌<◌, ◌⊎◌, ◌&&◌, ℕ, List, [], ◌∷◌, Bool, true, false, Option, None, IfOk, IfErr, IfSome, MatchOption, OnOk, OnErr, if◌then◌else◌, Some};
 ghost use Rattle.ld_ids.specs.Set.{members};
 ghost use Rattle.ld_config.specs.declared.config.Config.{Config};
 ghost use Rattle.ld_config.specs.Bounds.{IsInBounds};
-ghost use Rattle.ld_schedule.specs.declared.event.Event.TheVariants.{Append, Retry};
+ghost use Rattle.ld_schedule.specs.declared.event.Event.TheVariants.{Retry};
 ghost use Rattle.ld_node_bounds.specs.Messages.{AreMessages};
 ghost use Rattle.ld_machine.specs.State.{State};
 ghost use Rattle.ld_machine.specs.Step.{happens};
@@ -13,20 +13,21 @@ ghost use Rattle.ld_dial.specs.Far.{Far};
 ghost use Rattle.ld_rounds.specs.Ends.{IsSaid, is_final, tells_by};
 ghost use Rattle.ld_rounds.specs.Acts.{IsActed, Own, driver};
 ghost use Rattle.ld_rounds.specs.Drives.{AreOfConfig, Holds, GoesOn, AllTaken, IsBroken, AreLater};
-ghost use Rattle.ld_rounds.specs.Rounds.{IsOne, IsBegun, IsRetry, MayRetry, Adds, AddsUntil, Prepares, PreparesUntil, Rounds, RoundsUntil, IsDry, finds_full, finds_final, taken_of, tells_full};
+ghost use Rattle.ld_rounds.specs.Requests.{request_event, settled_at, has_to_wait, is_waiting};
+ghost use Rattle.ld_rounds.specs.Rounds.{IsAsked, IsAsking, IsRetry, MayRetry, Adds, AddsUntil, Prepares, PreparesUntil, Rounds, RoundsUntil, IsDry, finds_full, finds_final, taken_of, tells_full};
 ghost use Rattle.ld_rounds.specs.Taking.{TookAppends};
 ghost use Rattle.ld_rounds.specs.Endings.{IsEnding, IsLater, IsOffAs, EndsOff};
 ghost use Rattle.ld_rounds.specs.Feeding.{IsInputEnding, IsAppendEnding, upcoming, WasOver, NextIs, SameBehind, StaysAs, HasCome};
 ghost use Rattle.ld_rounds.specs.Input.{Input};
 ghost use Rattle.ld_rounds.specs.Queued.{are_empty};
 
-use crate::{Actor, Ended, Heard, InputFault, Payloads, Queues, round, tell};
+use crate::{Actor, Ended, Heard, InputFault, Payloads, Queues, Request, round, tell};
 use ld_dial::Nodes;
-use ld_ids::{Name, NoMemory, NodeSet, Payload};
+use ld_ids::{Name, NoMemory, NodeSet};
 use ld_io::Sink;
 use std::alloc::Global;
 
-/// What an append wrote and sent, and whether it found the window full.
+/// What a request wrote and sent, and whether it is an append that found the window full.
 #[derive(Drop)]
 pub struct Appended {
     pub heard: Heard,
@@ -38,17 +39,18 @@ pub trait Appends: Actor {
     /// Every append is acknowledged, and every epoch before its own is closed.
     ghost settled: { Self → Bool };
 
-    /// The sequencer of the name numbers the payload and sends it, or writes why not. It ends the drive where it says so in
-    /// a line, and where a line tells that it was preempted, or that its numbers or the log's epochs are used up. After running out of memory it is of no use.
+    /// The sequencer of the name numbers the payload and sends it, or tells all nodes of the configuration that all up to the
+    /// number may go; or it writes why not. It ends the drive where it says so in a line, and where a line tells that it was
+    /// preempted, or that its numbers or the log's epochs are used up. After running out of memory it is of no use.
     fn append(
         &mut self,
         alloc: Global,
         name: &Name,
-        payload: &Payload,
+        request: &Request,
     ) -> Result<Appended, NoMemory>
         ensures messages { IfOk result (λ appended. AreMessages appended.heard.sends) }
         ensures appended { IfOk result (λ appended. (c : Config) (s : State) → IsInBounds c → IsSound c s → Self.stands self.old c s
-            → IsActed (Self.stands self.new c) s appended.heard.lines.items appended.heard.sends (happens c s (Append name.now payload.now))) }
+            → IsActed (Self.stands self.new c) s appended.heard.lines.items appended.heard.sends (happens c s (request_event name.now request.now))) }
         ensures full { IfOk result (λ appended. appended.is_full ≡ tells_full appended.heard.lines.items) }
         ensures said { IfOk result (λ appended. IfSome appended.heard.end (IsSaid appended.heard.lines.items)) }
         ensures ends { IfOk result (λ appended. appended.heard.end ≡ None → tells_by is_final appended.heard.lines.items ≡ false) }
@@ -70,26 +72,42 @@ pub trait Appends: Actor {
     /// Whether every append is acknowledged, and every epoch before its own is closed.
     fn is_settled(&self) -> bool
         ensures { result ≡ settled self.now };
+
+    /// Where it is so the sequencer of any name has settled too, in each state that it represents its part of.
+    ghost settled_there: { (actor : Self) (c : Config) (s : State) (name : List ℕ) → Self.Actor.stands actor c s → settled actor ≡ true → settled_at name s ≡ true };
 }
 
-/// One append: its messages wait for their nodes. True where the window is full.
+/// Whether the request is a trim that has to wait: some append isn't acknowledged, or some epoch before the sequencer's own
+/// isn't closed.
+fn has_to_wait<A: Appends>(request: &Request, sequencer: &A) -> bool
+    ensures { result ≡ has_to_wait request.now (A.settled sequencer.now) }
+{
+    match request {
+        Request::Append(_) => false,
+        Request::Trim(_) => !sequencer.is_settled(),
+    }
+}
+
+/// One request that doesn't have to wait: its messages wait for their nodes. True where it is an append, and the window is
+/// full.
 fn add<A: Appends, O: Sink>(
     alloc: Global,
     name: &Name,
-    payload: &Payload,
+    request: &Request,
     sequencer: &mut A,
     queues: &mut Queues,
     out: &mut O,
 ) -> Result<bool, Ended>
+    requires { has_to_wait request.now (A.settled sequencer.old) ≡ false }
     ensures held { (own : Own) (c : Config) (first : ℕ) (s : State) (far : Far) → IsInBounds c → Holds (A.stands sequencer.old) c first s far queues.old
-        → GoesOn (driver name.now own) ⊥ (λ t es. IsOne (Append name.now payload.now) t es × IfOk result (λ full. (taken_of c t es ≡ (if full then [] else payload.now ∷ [])) × (full ≡ finds_full c t (Append name.now payload.now)) × (finds_final c t (Append name.now payload.now) ≡ false))) (λ e. IsBegun (Append name.now payload.now)) (A.stands sequencer.new) (λ now. now ≡ far) c first s queues.new (Some (O.written out.old)) (Some (O.written out.new)) result }
+        → GoesOn (driver name.now own) ⊥ (λ t es. IsAsked name.now request.now t es × IfOk result (λ full. (taken_of c t es ≡ (if full then [] else request.now ∷ [])) × (full ≡ finds_full c t (request_event name.now request.now)) × (finds_final c t (request_event name.now request.now) ≡ false))) (λ e. IsAsking name.now request.now) (A.stands sequencer.new) (λ now. now ≡ far) c first s queues.new (Some (O.written out.old)) (Some (O.written out.new)) result }
     ensures itself { A.own sequencer.new ≡ A.own sequencer.old }
     ensures since { A.since sequencer.old sequencer.new }
     ensures cause { IfErr result (IsEnding (O.faults out.old) (O.faults out.new) (Some (O.written out.old)) (Some (O.written out.new))) }
     ensures off { (off : Option FrameFault) → IfErr result (IsOffAs off) }
     ensures later { IsLater (O.faults out.old) (O.faults out.new) (Some (O.written out.old)) (Some (O.written out.new)) }
 {
-    let Ok(appended) = sequencer.append(alloc, name, payload) else {
+    let Ok(appended) = sequencer.append(alloc, name, request) else {
         return Err(Ended::NoMemory);
     };
     let Appended { heard, is_full } = appended;
@@ -119,10 +137,11 @@ fn again<A: Appends, O: Sink>(
     tell(alloc, heard, queues, out)
 }
 
-/// The payloads that are still to be appended: one that found the window full is held, and comes first.
+/// The requests that are still to be made: a payload that found the window full, or a trim that has to wait, is held, and comes
+/// first.
 #[derive(Drop)]
 pub struct Feed {
-    held: Option<Payload>,
+    held: Option<Request>,
     is_over: bool,
 }
 
@@ -138,21 +157,21 @@ impl Feed {
         }
     }
 
-    /// Takes the next payload; none is at the end of the input, where it is over.
-    fn next<P: Payloads>(&mut self, alloc: Global, input: &mut P) -> Result<Option<Payload>, Ended>
+    /// Takes the next request; none is at the end of the input, where it is over.
+    fn next<P: Payloads>(&mut self, alloc: Global, input: &mut P) -> Result<Option<Request>, Ended>
         ensures gives { NextIs (upcoming self.old.held (P.coming input.old)) (upcoming self.new.held (P.coming input.new)) result }
         ensures none { IfOk result (λ next. self.new.held ≡ None) }
-        ensures on { IfOk result (λ next. MatchOption next (self.new.is_over ≡ true) (λ payload. self.new.is_over ≡ self.old.is_over)) }
+        ensures on { IfOk result (λ next. MatchOption next (self.new.is_over ≡ true) (λ request. self.new.is_over ≡ self.old.is_over)) }
         ensures stopped { OnErr result (self.new.is_over ≡ self.old.is_over) }
         ensures cause { IfErr result (IsInputEnding (upcoming self.old.held (P.coming input.old)) (P.faults input.old) (P.faults input.new)) }
         ensures later { P.faults input.old ≤ P.faults input.new }
         ensures itself { P.identity input.new ≡ P.identity input.old }
     {
-        if let Some(payload) = self.held.take() {
-            return Ok(Some(payload));
+        if let Some(request) = self.held.take() {
+            return Ok(Some(request));
         }
         match input.next(alloc) {
-            Ok(Some(payload)) => Ok(Some(payload)),
+            Ok(Some(request)) => Ok(Some(request)),
             Ok(None) => {
                 self.is_over = true;
                 Ok(None)
@@ -163,7 +182,7 @@ impl Feed {
         }
     }
 
-    /// Waits for the next payload and holds it, unless one is held already or the input has ended.
+    /// Waits for the next request and holds it, unless one is held already or the input has ended.
     fn fill<P: Payloads>(&mut self, alloc: Global, input: &mut P) -> Result<(), Ended>
         ensures stays { OnOk result (StaysAs (upcoming self.old.held (P.coming input.old)) (upcoming self.new.held (P.coming input.new))) }
         ensures refused { IfErr result (λ ended. NextIs (upcoming self.old.held (P.coming input.old)) (upcoming self.new.held (P.coming input.new)) (Err ended)) }
@@ -184,7 +203,7 @@ impl Feed {
         Ok(())
     }
 
-    /// Whether the next payload is had without a wait: it is held, or the input is ready.
+    /// Whether the next request is had without a wait: it is held, or the input is ready.
     fn is_ready<P: Payloads>(&self, input: &P) -> bool
         ensures ready { P.ready input.now ≡ Some true → result ≡ true }
         ensures unready { self.now.held ≡ None → P.ready input.now ≡ Some false → result ≡ false }
@@ -196,8 +215,9 @@ impl Feed {
     }
 }
 
-/// Appends payloads, until one finds the window full, none is ready, or the input has ended. Where that was before, none is
-/// asked for.
+/// Makes requests, until an append finds the window full, a trim has to wait, none is ready, or the input has ended. Where that
+/// was before, none is asked for. So a trim comes behind all appends before it, once these are acknowledged, and what follows
+/// it waits for it. Once it is made it is done with, refused or not.
 fn add_all<A: Appends, P: Payloads, O: Sink>(
     alloc: Global,
     name: &Name,
@@ -208,7 +228,7 @@ fn add_all<A: Appends, P: Payloads, O: Sink>(
     out: &mut O,
 ) -> Result<(), Ended>
     ensures held { (own : Own) (c : Config) (first : ℕ) (s : State) (far : Far) → IsInBounds c → Holds (A.stands sequencer.old) c first s far queues.old
-        → GoesOn (driver name.now own) ⊥ (Adds name.now c (IsDry feed.new.is_over (P.ready input.new)) (upcoming feed.old.held (P.coming input.old)) (upcoming feed.new.held (P.coming input.new))) (AddsUntil name.now c (upcoming feed.old.held (P.coming input.old))) (A.stands sequencer.new) (λ now. now ≡ far) c first s queues.new (Some (O.written out.old)) (Some (O.written out.new)) result }
+        → GoesOn (driver name.now own) ⊥ (Adds name.now c (IsDry feed.new.is_over (P.ready input.new) feed.new.held (A.settled sequencer.new)) (upcoming feed.old.held (P.coming input.old)) (upcoming feed.new.held (P.coming input.new))) (AddsUntil name.now c (upcoming feed.old.held (P.coming input.old))) (A.stands sequencer.new) (λ now. now ≡ far) c first s queues.new (Some (O.written out.old)) (Some (O.written out.new)) result }
     ensures over { (origin : Option Input) → SameBehind origin (upcoming feed.old.held (P.coming input.old)) → WasOver origin feed.old.is_over (upcoming feed.old.held (P.coming input.old)) → WasOver origin feed.new.is_over (upcoming feed.new.held (P.coming input.new)) }
     ensures behind { OnOk result (SameBehind (upcoming feed.old.held (P.coming input.old)) (upcoming feed.new.held (P.coming input.new))) }
     ensures waits { feed.old.held ≡ None → P.ready input.old ≡ Some false → input.new ≡ input.old }
@@ -223,15 +243,20 @@ fn add_all<A: Appends, P: Payloads, O: Sink>(
     if feed.is_over {
         return Ok(());
     }
-    'payloads: for _ in 0..u64::MAX {
+    'requests: for _ in 0..u64::MAX {
         if !feed.is_ready(input) {
             return Ok(());
         }
-        let Some(payload) = feed.next(alloc, input)? else {
+        let Some(request) = feed.next(alloc, input)? else {
             return Ok(());
         };
-        if add(alloc, name, &payload, sequencer, queues, out)? {
-            feed.held = Some(payload);
+        if has_to_wait(&request, sequencer) {
+            let trim = request;
+            feed.held = Some(trim);
+            return Ok(());
+        }
+        if add(alloc, name, &request, sequencer, queues, out)? {
+            feed.held = Some(request);
             return Ok(());
         }
     }
@@ -239,7 +264,7 @@ fn add_all<A: Appends, P: Payloads, O: Sink>(
     Err(Ended::NoMemory)
 }
 
-/// Waits for the first payload; then payloads are appended.
+/// Waits for the first request; then requests are made.
 fn add_first<A: Appends, P: Payloads, O: Sink>(
     alloc: Global,
     name: &Name,
@@ -250,7 +275,7 @@ fn add_first<A: Appends, P: Payloads, O: Sink>(
     out: &mut O,
 ) -> Result<(), Ended>
     ensures held { (own : Own) (c : Config) (first : ℕ) (s : State) (far : Far) → IsInBounds c → Holds (A.stands sequencer.old) c first s far queues.old
-        → GoesOn (driver name.now own) ⊥ (Adds name.now c (IsDry feed.new.is_over (P.ready input.new)) (upcoming feed.old.held (P.coming input.old)) (upcoming feed.new.held (P.coming input.new))) (AddsUntil name.now c (upcoming feed.old.held (P.coming input.old))) (A.stands sequencer.new) (λ now. now ≡ far) c first s queues.new (Some (O.written out.old)) (Some (O.written out.new)) result }
+        → GoesOn (driver name.now own) ⊥ (Adds name.now c (IsDry feed.new.is_over (P.ready input.new) feed.new.held (A.settled sequencer.new)) (upcoming feed.old.held (P.coming input.old)) (upcoming feed.new.held (P.coming input.new))) (AddsUntil name.now c (upcoming feed.old.held (P.coming input.old))) (A.stands sequencer.new) (λ now. now ≡ far) c first s queues.new (Some (O.written out.old)) (Some (O.written out.new)) result }
     ensures over { (origin : Option Input) → SameBehind origin (upcoming feed.old.held (P.coming input.old)) → WasOver origin feed.old.is_over (upcoming feed.old.held (P.coming input.old)) → WasOver origin feed.new.is_over (upcoming feed.new.held (P.coming input.new)) }
     ensures behind { OnOk result (SameBehind (upcoming feed.old.held (P.coming input.old)) (upcoming feed.new.held (P.coming input.new))) }
     ensures actor { A.own sequencer.new ≡ A.own sequencer.old }
@@ -265,8 +290,8 @@ fn add_first<A: Appends, P: Payloads, O: Sink>(
     add_all(alloc, name, feed, input, sequencer, queues, out)
 }
 
-/// Before the first round a payload is waited for, and before each other one what is still wanted is sent again; then payloads
-/// are appended.
+/// Before the first round a request is waited for, and before each other one what is still wanted is sent again; then requests
+/// are made.
 fn prepare<A: Appends, P: Payloads, O: Sink>(
     alloc: Global,
     name: &Name,
@@ -278,7 +303,7 @@ fn prepare<A: Appends, P: Payloads, O: Sink>(
     out: &mut O,
 ) -> Result<(), Ended>
     ensures held { (own : Own) (c : Config) (first : ℕ) (s : State) (far : Far) → IsInBounds c → Holds (A.stands sequencer.old) c first s far queues.old
-        → GoesOn (driver name.now own) ⊥ (Prepares name.now c (IsDry feed.new.is_over (P.ready input.new)) is_first (upcoming feed.old.held (P.coming input.old)) (upcoming feed.new.held (P.coming input.new))) (PreparesUntil name.now c is_first (upcoming feed.old.held (P.coming input.old))) (A.stands sequencer.new) (λ now. now ≡ far) c first s queues.new (Some (O.written out.old)) (Some (O.written out.new)) result }
+        → GoesOn (driver name.now own) ⊥ (Prepares name.now c (IsDry feed.new.is_over (P.ready input.new) feed.new.held (A.settled sequencer.new)) is_first (upcoming feed.old.held (P.coming input.old)) (upcoming feed.new.held (P.coming input.new))) (PreparesUntil name.now c is_first (upcoming feed.old.held (P.coming input.old))) (A.stands sequencer.new) (λ now. now ≡ far) c first s queues.new (Some (O.written out.old)) (Some (O.written out.new)) result }
     ensures over { (origin : Option Input) → SameBehind origin (upcoming feed.old.held (P.coming input.old)) → WasOver origin feed.old.is_over (upcoming feed.old.held (P.coming input.old)) → WasOver origin feed.new.is_over (upcoming feed.new.held (P.coming input.new)) }
     ensures behind { OnOk result (SameBehind (upcoming feed.old.held (P.coming input.old)) (upcoming feed.new.held (P.coming input.new))) }
     ensures waits { is_first ≡ false → feed.old.held ≡ None → P.ready input.old ≡ Some false → input.new ≡ input.old }
@@ -312,7 +337,7 @@ fn append_round<A: Appends, N: Nodes, P: Payloads, O: Sink>(
 ) -> Result<(), Ended>
     ensures held { (own : Own) → A.own sequencer.old ≡ own → (c : Config) (first : ℕ) (s : State) (far : Far) → IsInBounds c → AreOfConfig c (members set.now)
         → AllTaken (N.tells nodes.old c) far → Holds (A.stands sequencer.old) c first s far queues.old
-        → (N.silent nodes.new ≡ true) ⊎ GoesOn (driver name.now own) (IsBroken (N.faults nodes.old) (N.faults nodes.new) (N.endings nodes.old) (N.endings nodes.new)) (Rounds name.now c (IsDry feed.new.is_over (P.ready input.new)) first (members set.now) is_first (upcoming feed.old.held (P.coming input.old)) (upcoming feed.new.held (P.coming input.new))) (RoundsUntil name.now c is_first (upcoming feed.old.held (P.coming input.old))) (A.stands sequencer.new) (AllTaken (N.tells nodes.new c)) c first s queues.new (Some (O.written out.old)) (Some (O.written out.new)) result }
+        → (N.silent nodes.new ≡ true) ⊎ GoesOn (driver name.now own) (IsBroken (N.faults nodes.old) (N.faults nodes.new) (N.endings nodes.old) (N.endings nodes.new)) (Rounds name.now c (IsDry feed.new.is_over (P.ready input.new) feed.new.held false) first (members set.now) is_first (upcoming feed.old.held (P.coming input.old)) (upcoming feed.new.held (P.coming input.new))) (RoundsUntil name.now c is_first (upcoming feed.old.held (P.coming input.old))) (A.stands sequencer.new) (AllTaken (N.tells nodes.new c)) c first s queues.new (Some (O.written out.old)) (Some (O.written out.new)) result }
     ensures silent { N.silent nodes.old ≡ true → N.silent nodes.new ≡ true }
     ensures over { (origin : Option Input) → SameBehind origin (upcoming feed.old.held (P.coming input.old)) → WasOver origin feed.old.is_over (upcoming feed.old.held (P.coming input.old)) → WasOver origin feed.new.is_over (upcoming feed.new.held (P.coming input.new)) }
     ensures behind { OnOk result (SameBehind (upcoming feed.old.held (P.coming input.old)) (upcoming feed.new.held (P.coming input.new))) }
@@ -331,7 +356,7 @@ fn append_round<A: Appends, N: Nodes, P: Payloads, O: Sink>(
     round(alloc, set, sequencer, nodes, queues, out)
 }
 
-/// Before a payload is waited for the present node is let go, so that nobody waits for a client that waits itself.
+/// Before a request is waited for the present node is let go, so that nobody waits for a client that waits itself.
 fn let_go<P: Payloads, N: Nodes>(feed: &Feed, input: &P, nodes: &mut N)
     ensures rested { (c : Config) (far : Far) → N.tells nodes.old c far → N.tells nodes.new c far }
     ensures silent { N.silent nodes.new ≡ N.silent nodes.old }
@@ -344,8 +369,9 @@ fn let_go<P: Payloads, N: Nodes>(feed: &Feed, input: &P, nodes: &mut N)
     }
 }
 
-/// Whether it is done: every append is acknowledged, every epoch before its own is closed, no message waits, and the input has
-/// ended. Where it is so but for the input, the next payload is waited for and held.
+/// Whether it is done: every append is acknowledged, every epoch before its own is closed, no message waits, so that each trim
+/// went to all nodes that were reached, and the input has ended. Where it is so but for the input, the next request is waited
+/// for and held.
 fn is_done<A: Appends, N: Nodes, P: Payloads>(
     alloc: Global,
     feed: &mut Feed,
@@ -355,7 +381,7 @@ fn is_done<A: Appends, N: Nodes, P: Payloads>(
     queues: &Queues,
 ) -> Result<bool, Ended>
     ensures done { IfOk result (λ done. done ≡ (A.settled sequencer.now && (are_empty queues.now && feed.new.is_over))) }
-    // Where all but the input is so, the input has ended then or a payload is held.
+    // Where all but the input is so, the input has ended then or a request is held.
     ensures asked { OnOk result ((A.settled sequencer.now && are_empty queues.now) ≡ true → feed.new.held ≡ None → feed.new.is_over ≡ true) }
     ensures stays { OnOk result (StaysAs (upcoming feed.old.held (P.coming input.old)) (upcoming feed.new.held (P.coming input.new))) }
     ensures refused { IfErr result (λ ended. NextIs (upcoming feed.old.held (P.coming input.old)) (upcoming feed.new.held (P.coming input.new)) (Err ended)) }
@@ -421,11 +447,12 @@ fn turn<A: Appends, N: Nodes, P: Payloads, O: Sink>(
     is_done(alloc, feed, input, sequencer, nodes, queues)
 }
 
-/// Drives a sequencer over payloads. Before each of so many rounds over the nodes of a set but the first, what is still
-/// wanted is sent again, and then payloads are appended until one finds the window full, which is the next round's first,
-/// none is ready, or the input has ended. A payload is waited for only before the first round, and after a round by which
-/// every append is acknowledged, every epoch before its own is closed, and no message waits: no node is present meanwhile, and
-/// it is done where the input has ended. True where it was.
+/// Drives a sequencer over payloads and trims. Before each of so many rounds over the nodes of a set but the first, what is
+/// still wanted is sent again, and then requests are made until an append finds the window full or a trim has to wait, which is
+/// the next round's first, none is ready, or the input has ended. A trim waits until every append is acknowledged and every
+/// epoch before the sequencer's own is closed, since only so much is released as is acknowledged and closed. A request is
+/// waited for only before the first round, and after a round by which every append is acknowledged, every epoch before its own
+/// is closed, and no message waits: no node is present meanwhile, and it is done where the input has ended. True where it was.
 ///
 /// It ends with `Preempted`, `EpochFull` or `Register` where a line says so, with `BadFrame` where what a node sent begins no
 /// frame, with `BadLine` at the first line with a syntax error, with `Read` where the input failed, with `Write` where the
@@ -442,16 +469,17 @@ pub fn append<A: Appends, N: Nodes, P: Payloads, O: Sink>(
     out: &mut O,
 ) -> Result<bool, Ended>
     // Where the nodes tell what stands there: all that was done are steps of the written machine from any state that the drive
-    // represents, round by round: it sends again, but not in the first, payloads are appended, and the set's nodes are visited
-    // one after the other. The payloads that the machine took are the first ones that came, in their order; they are all where
-    // it is done, and where it comes to a line with a syntax error. The lines that were written are the sequencer's lines of
-    // those steps. A message to a node is lost only where a call of the nodes failed or a node had ended, and an answer only
-    // where the sequencer doesn't take it; it never ends with `BadFrame`.
+    // represents, round by round: it sends again, but not in the first, requests are made, and the set's nodes are visited
+    // one after the other. A trim is made only where the sequencer has every append acknowledged and every epoch before its own
+    // closed. The requests that the machine took are the first ones that came, in their order; they are all where it is done,
+    // and where it comes to a line with a syntax error. The lines that were written are the sequencer's lines of those steps. A
+    // message to a node is lost only where a call of the nodes failed or a node had ended, and an answer only where the
+    // sequencer doesn't take it; it never ends with `BadFrame`.
     ensures held { (c : Config) (first : ℕ) (s : State) (far : Far) → IsInBounds c → AreOfConfig c (members set.now)
         → AllTaken (N.tells nodes.old c) far → Holds (A.stands sequencer.old) c first s far queues.old
         → (N.silent nodes.new ≡ true) ⊎ TookAppends (driver name.now (A.own sequencer.old)) (IsBroken (N.faults nodes.old) (N.faults nodes.new) (N.endings nodes.old) (N.endings nodes.new)) (members set.now) (P.coming input.old) rounds (A.stands sequencer.new) (AllTaken (N.tells nodes.new c)) c first s queues.new (Some (O.written out.old)) (Some (O.written out.new)) result }
     ensures settled { IfOk result (λ done. done ≡ true → (A.settled sequencer.new ≡ true) × (are_empty queues.new ≡ true)) }
-    // Where all rounds were taken and all but the input is done, the input held a payload.
+    // Where all rounds were taken and all but the input is done, the input held a request.
     ensures undone { IfOk result (λ done. 0 < rounds → done ≡ false → (A.settled sequencer.new && are_empty queues.new) ≡ true → HasCome (P.coming input.old)) }
     ensures itself { P.identity input.new ≡ P.identity input.old }
     ensures actor { A.own sequencer.new ≡ A.own sequencer.old }

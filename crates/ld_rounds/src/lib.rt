@@ -11,6 +11,7 @@ mod payloads;
 mod queue;
 mod queues;
 mod reads;
+mod request;
 mod visits;
 
 pub use actor::{Actor, Heard};
@@ -21,4 +22,5 @@ pub use output::{write_all, write_lines};
 pub use payloads::{InputFault, Payloads};
 pub use queues::Queues;
 pub use reads::{Reads, read};
+pub use request::Request;
 pub use visits::{round, tell, visit};

@@ -1,11 +1,12 @@
-// Where payloads come from.
+// Where requests come from.
 ghost use Rattle.std.specs.Prelude.{◌≡◌, ◌≤◌, ℕ, Bool, Option, IfErr, IfSome};
 ghost use Rattle.ld_rounds.specs.Input.{Input, Gives, IsReadFault};
 
-use ld_ids::{NoMemory, Payload};
+use crate::Request;
+use ld_ids::NoMemory;
 use std::alloc::Global;
 
-/// Why no payload is given.
+/// Why no request is given.
 #[derive(Clone, Copy)]
 pub enum InputFault {
     /// The line, counted from 1, is the first one with a syntax error, and this is the byte offset of it.
@@ -16,7 +17,7 @@ pub enum InputFault {
     NoMemory,
 }
 
-/// Payloads, one after the other.
+/// Payloads that are to be appended, and numbers that the log is to be trimmed up to, one after the other.
 pub trait Payloads {
     /// What is still to come, where this tells it.
     ghost coming: { Self → Option Input };
@@ -27,18 +28,18 @@ pub trait Payloads {
     /// Which one this is, so that one that was lent is known to have come back. Each call keeps it.
     ghost identity: { Self → ℕ };
 
-    /// Whether the next payload can be taken without a wait, where this tells it.
+    /// Whether the next request can be taken without a wait, where this tells it.
     ghost ready: { Self → Option Bool };
 
-    /// Takes the next payload, and waits for it; none is at the end of the input. It is refused with `BadLine` where the next line has a syntax
+    /// Takes the next request, and waits for it; none is at the end of the input. It is refused with `BadLine` where the next line has a syntax
     /// error, with `Read` where a read failed, and when out of memory.
-    fn next(&mut self, alloc: Global) -> Result<Option<Payload>, InputFault>
+    fn next(&mut self, alloc: Global) -> Result<Option<Request>, InputFault>
         ensures gives { Gives (coming self.old) (coming self.new) result }
         ensures later { faults self.old ≤ faults self.new }
         ensures itself { identity self.new ≡ identity self.old }
         ensures cause { IfErr result (IsReadFault (faults self.old) (faults self.new)) };
 
-    /// Whether the next payload, or a part of it, has come, or the input has ended or failed.
+    /// Whether the next request, or a part of it, has come, or the input has ended or failed.
     fn is_ready(&self) -> bool
         ensures { IfSome (ready self.now) (λ is_ready. result ≡ is_ready) };
 }

@@ -1,5 +1,5 @@
 // Messages that wait for nodes.
-ghost use Rattle.std.specs.Prelude.{◌≡◌, [], set, OnOk, OnErr, IfOk, IfSome};
+ghost use Rattle.std.specs.Prelude.{◌≡◌, ◌≤◌, [], set, OnOk, OnErr, IfOk, IfSome};
 ghost use Rattle.ld_table.specs.Words.{first, any_of};
 ghost use Rattle.ld_ids.specs.Id.{IsNode};
 ghost use Rattle.ld_ids.specs.Set.{members};
@@ -16,14 +16,16 @@ use std::marker::Model;
 /// As many queues as there are numbers up to the greatest of a node.
 const COUNT: usize = 17;
 
-/// The messages that wait for each node, in the order in which they came.
+/// The messages that wait for each node, in the order in which they came, and how many of them a visit sends before it takes
+/// their answers, from 1 to 128.
 #[derive(Drop)]
 pub struct Queues {
     queues: Vec<Queue>,
+    in_flight: u32,
 }
 
 impl Model for Queues {
-    ghost use Rattle.std.specs.Prelude.{List};
+    ghost use Rattle.std.specs.Prelude.{◌≤◌, List};
     ghost use Rattle.ld_msg.specs.declared.msg.Msg.{Msg};
     ghost use Rattle.ld_rounds.specs.Queued.{AreQueues};
 
@@ -31,19 +33,23 @@ impl Model for Queues {
 
     ghost view = { λ a. a.queues.items };
 
-    ghost invariant = { λ a. AreQueues a.queues.items };
+    ghost invariant = { λ a. AreQueues a.queues.items × (1 ≤ a.in_flight) × (a.in_flight ≤ 128) };
 }
 
 impl Queues {
-    /// No message waits.
-    pub fn new(alloc: Global) -> Result<Queues, NoMemory>
+    /// No message waits. A visit sends up to `in_flight` of them before it takes their answers: 1 where that is 0, and 128
+    /// where it is more.
+    pub fn new(alloc: Global, in_flight: u32) -> Result<Queues, NoMemory>
         ensures { IfOk result (λ queues. queues ≡ no_queues) }
     {
         let mut queues = Vec::new(alloc);
         'numbers: for _ in 0..COUNT {
             queues.push(Queue::new(alloc))?;
         }
-        Ok(Queues { queues })
+        Ok(Queues {
+            queues,
+            in_flight: in_flight.max(1).min(128),
+        })
     }
 
     /// Each message comes behind those that wait for its node. Without memory the first ones have come, or none.
@@ -72,6 +78,14 @@ impl Queues {
         let place = usize::from(node.number());
         self.queues[place].push(message)?;
         Ok(())
+    }
+
+    /// How many messages a visit sends before it takes their answers.
+    pub fn in_flight(&self) -> u32
+        ensures least { 1 ≤ result }
+        ensures most { result ≤ 128 }
+    {
+        self.in_flight
     }
 
     /// Whether a message waits for the node.

@@ -1,5 +1,5 @@
 // A round: each node is visited, and what waits for it is sent.
-ghost use Rattle.std.specs.Prelude.{◌≡◌, ◌≢◌, ◌⊎◌, ◌∷◌, [], ℕ, List, Option, None, Err, Some, true, false, set, IsTrue, IfOk, IfErr, IfSome, MatchResult};
+ghost use Rattle.std.specs.Prelude.{◌≡◌, ◌≢◌, ◌≤◌, ◌+◌, ◌⊎◌, ◌∷◌, [], ℕ, List, Option, None, Err, Some, true, false, set, IsTrue, IfOk, IfErr, IfSome, MatchResult};
 ghost use Rattle.ld_ids.specs.Set.{members};
 ghost use Rattle.ld_config.specs.declared.config.Config.{Config};
 ghost use Rattle.ld_config.specs.Bounds.{IsInBounds};
@@ -11,8 +11,9 @@ ghost use Rattle.ld_node_bounds.specs.Messages.{AreMessages};
 ghost use Rattle.ld_machine.specs.State.{State};
 ghost use Rattle.ld_wire.specs.declared.fault.WireFault.{WireFault as FrameFault};
 ghost use Rattle.ld_dial.specs.Far.{Far, KeepsFrame};
-ghost use Rattle.ld_rounds.specs.Queued.{queue_of};
+ghost use Rattle.ld_rounds.specs.Queued.{queue_of, TakesUpTo};
 ghost use Rattle.ld_rounds.specs.Telling.{HasTold, IsTelling, is_of, is_answered, missed_by};
+ghost use Rattle.ld_rounds.specs.Listening.{Writes, is_cut, listens_on, end_then, ends_by, still_due, unsent_by, due_with, due_of};
 ghost use Rattle.ld_rounds.specs.Drives.{Driver, AreOfConfig, Holds, GoesOn, AllTaken, WithNode, Answering, IsBroken, AreLater};
 ghost use Rattle.ld_rounds.specs.Rounds.{IsDelivered, IsReminded, RemindEnd, CalmEnd, Visiting, VisitEnd, IsVisit, AreVisits};
 ghost use Rattle.ld_rounds.specs.Acts.{IsDriverOf};
@@ -89,23 +90,26 @@ pub fn tell<O: Sink>(
     }
 }
 
-/// Takes one answer of the present node, and reminds the node of what is closed. An answer of another node, for another
-/// actor or of another log does nothing. False where the node fails or has ended.
+/// Takes one answer of the present node, where so many others are due behind it. Where none is, the node is reminded of what
+/// is closed. An answer of another node, for another actor or of another log does nothing. False where the node fails or has
+/// ended: then no other is due.
 fn listen<A: Actor, N: Nodes, O: Sink>(
     alloc: Global,
     node: NodeId,
+    due: u32,
     actor: &mut A,
     nodes: &mut N,
     queues: &mut Queues,
     out: &mut O,
 ) -> Result<bool, Ended>
     ensures held { (who : Driver) → IsDriverOf who (A.own actor.old) → (c : Config) (first : ℕ) (s : State) (far : Far) → IsInBounds c → has_node c node ≡ true
-        → Answering (N.tells nodes.old) c node far → Holds (A.stands actor.old) c first s far queues.old
-        → (N.silent nodes.new ≡ true) ⊎ GoesOn who (IsBroken (N.faults nodes.old) (N.faults nodes.new) (N.endings nodes.old) (N.endings nodes.new)) (Visiting c node) (VisitEnd c node) (A.stands actor.new) (WithNode (N.tells nodes.new) c node) c first s queues.new (Some (O.written out.old)) (Some (O.written out.new)) result }
+        → Answering (N.tells nodes.old) c node (due + 1) far → Holds (A.stands actor.old) c first s far queues.old
+        → (N.silent nodes.new ≡ true) ⊎ GoesOn who (IsBroken (N.faults nodes.old) (N.faults nodes.new) (N.endings nodes.old) (N.endings nodes.new)) (Visiting c node) (VisitEnd c node) (A.stands actor.new) (Answering (N.tells nodes.new) c node (still_due due result)) c first s queues.new (Some (O.written out.old)) (Some (O.written out.new)) result }
     ensures silent { N.silent nodes.old ≡ true → N.silent nodes.new ≡ true }
     ensures itself { A.own actor.new ≡ A.own actor.old }
     ensures since { A.since actor.old actor.new }
     ensures cause { IfErr result (IsEnding (O.faults out.old) (O.faults out.new) (Some (O.written out.old)) (Some (O.written out.new))) }
+    ensures wrote { Writes (Some (O.written out.old)) (Some (O.written out.new)) result }
     ensures off { IfErr result (IsOffAs (N.off nodes.new)) }
     ensures ended { N.off nodes.old ≡ None → EndsOff (N.off nodes.new) result }
     ensures later { IsLater (O.faults out.old) (O.faults out.new) (Some (O.written out.old)) (Some (O.written out.new)) }
@@ -123,6 +127,9 @@ fn listen<A: Actor, N: Nodes, O: Sink>(
         return Ok(true);
     }
     take(alloc, &answer, actor, queues, out)?;
+    if due > 0 {
+        return Ok(true);
+    }
     remind(alloc, node, &answer, actor, nodes)
 }
 
@@ -150,6 +157,7 @@ fn take<A: Actor, O: Sink>(
     ensures itself { A.own actor.new ≡ A.own actor.old }
     ensures since { A.since actor.old actor.new }
     ensures cause { IfErr result (IsEnding (O.faults out.old) (O.faults out.new) (Some (O.written out.old)) (Some (O.written out.new))) }
+    ensures wrote { Writes (Some (O.written out.old)) (Some (O.written out.new)) result }
     ensures off { (off : Option FrameFault) → IfErr result (IsOffAs off) }
     ensures later { IsLater (O.faults out.old) (O.faults out.new) (Some (O.written out.old)) (Some (O.written out.new)) }
 {
@@ -198,21 +206,61 @@ fn remind<A: Actor, N: Nodes>(
     Ok(true)
 }
 
-/// Sends a message to the present node, and takes one answer of it, where a node answers such a message. False where the
-/// node fails or has ended.
-fn exchange<A: Actor, N: Nodes, O: Sink>(
+/// Whether a drive ends by it at once, with answers still due.
+fn is_cut(ended: Ended) -> bool
+    ensures { result ≡ is_cut ended }
+{
+    match ended {
+        Ended::NoMemory => true,
+        Ended::Write => true,
+        Ended::BadFrame(_) => true,
+        _ => false,
+    }
+}
+
+/// Whether to listen on. Where the actor ended its drive that is kept, where nothing is kept yet, and what is due is still
+/// taken.
+fn listens_on(end: &mut Option<Ended>, listened: Result<bool, Ended>) -> Result<bool, Ended>
+    ensures on { result ≡ listens_on listened }
+    ensures end { end.new ≡ end_then end.old listened }
+{
+    match listened {
+        Ok(is_on) => Ok(is_on),
+        Err(ended) => {
+            if is_cut(ended) {
+                return Err(ended);
+            }
+            if end.is_none() {
+                *end = Some(ended);
+            }
+            Ok(true)
+        }
+    }
+}
+
+/// How it ends, where it does, and else whether it goes on.
+fn ends_by(end: Option<Ended>, is_on: bool) -> Result<bool, Ended>
+    ensures { result ≡ ends_by end is_on }
+{
+    match end {
+        Some(ended) => Err(ended),
+        None => Ok(is_on),
+    }
+}
+
+/// Takes so many answers of the present node. Where the actor ends its drive by one of them the others are still taken, since
+/// the node may have answered by then, and it ends so after them. False where the node fails or has ended.
+fn listen_all<A: Actor, N: Nodes, O: Sink>(
     alloc: Global,
     node: NodeId,
-    message: &Msg,
+    due: u32,
     actor: &mut A,
     nodes: &mut N,
     queues: &mut Queues,
     out: &mut O,
 ) -> Result<bool, Ended>
-    requires { IsMessage message.now }
-    ensures held { (who : Driver) → IsDriverOf who (A.own actor.old) → (c : Config) (first : ℕ) (s : State) (far : Far) (before : List (List Message)) (rest : List Message) → IsInBounds c → has_node c node ≡ true
-        → WithNode (N.tells nodes.old) c node far → Holds (A.stands actor.old) c first s far before
-        → queue_of before node ≡ message.now ∷ rest → queues.old ≡ set before node rest
+    ensures held { (who : Driver) → IsDriverOf who (A.own actor.old) → (c : Config) (first : ℕ) (s : State) (far : Far) → IsInBounds c → has_node c node ≡ true
+        → Answering (N.tells nodes.old) c node due far → Holds (A.stands actor.old) c first s far queues.old
         → (N.silent nodes.new ≡ true) ⊎ GoesOn who (IsBroken (N.faults nodes.old) (N.faults nodes.new) (N.endings nodes.old) (N.endings nodes.new)) (Visiting c node) (VisitEnd c node) (A.stands actor.new) (WithNode (N.tells nodes.new) c node) c first s queues.new (Some (O.written out.old)) (Some (O.written out.new)) result }
     ensures silent { N.silent nodes.old ≡ true → N.silent nodes.new ≡ true }
     ensures itself { A.own actor.new ≡ A.own actor.old }
@@ -224,20 +272,152 @@ fn exchange<A: Actor, N: Nodes, O: Sink>(
     ensures counts { AreLater (N.faults nodes.old) (N.faults nodes.new) (N.endings nodes.old) (N.endings nodes.new) }
     ensures broken { IfOk result (λ on. on ≡ false → IsBroken (N.faults nodes.old) (N.faults nodes.new) (N.endings nodes.old) (N.endings nodes.new)) }
 {
+    let mut end = None;
+    let mut left = due;
+    'answers: while left > 0 {
+        left -= 1;
+        let listened = listen(alloc, node, left, actor, nodes, queues, out);
+        let is_on = listens_on(&mut end, listened)?;
+        if !is_on {
+            return ends_by(end, false);
+        }
+    }
+    ends_by(end, true)
+}
+
+/// Sends a message to the present node. How many answers are due by it: one where a node answers such a message, and else
+/// none. Nothing where the link failed.
+fn send_one<A: Actor, N: Nodes>(
+    alloc: Global,
+    node: NodeId,
+    message: &Msg,
+    actor: &A,
+    nodes: &mut N,
+) -> Result<Option<u32>, Ended>
+    requires { IsMessage message.now }
+    ensures held { (who : Driver) (c : Config) (first : ℕ) (s : State) (far : Far) (queues : List (List Message)) (rest : List Message) (due : ℕ) (written : Option (List ℕ)) → IsInBounds c
+        → Answering (N.tells nodes.old) c node due far → Holds (A.stands actor.now) c first s far queues → queue_of queues node ≡ message.now ∷ rest
+        → (N.silent nodes.new ≡ true) ⊎ GoesOn who (IsBroken (N.faults nodes.old) (N.faults nodes.new) (N.endings nodes.old) (N.endings nodes.new)) (Visiting c node) (VisitEnd c node) (A.stands actor.now) (Answering (N.tells nodes.new) c node (due_with due result)) c first s (set queues node rest) written written result }
+    ensures few { IfOk result (λ due. IfSome due (λ n. n ≤ 1)) }
+    ensures silent { N.silent nodes.old ≡ true → N.silent nodes.new ≡ true }
+    ensures cause { (before : ℕ) (now : ℕ) (old : Option (List ℕ)) (new : Option (List ℕ)) → IfErr result (IsEnding before now old new) }
+    ensures off { IfErr result (IsOffAs (N.off nodes.new)) }
+    ensures same { N.off nodes.new ≡ N.off nodes.old }
+    ensures counts { AreLater (N.faults nodes.old) (N.faults nodes.new) (N.endings nodes.old) (N.endings nodes.new) }
+    ensures broken { IfOk result (λ due. due ≡ None → IsBroken (N.faults nodes.old) (N.faults nodes.new) (N.endings nodes.old) (N.endings nodes.new)) }
+{
     let _ = node.number();
     match nodes.send(alloc, message) {
         Ok(()) => {}
-        Err(fault) => return missed(fault),
+        Err(fault) => return unsent(fault),
     }
-    if !is_answered(message) {
-        return Ok(true);
+    if is_answered(message) {
+        return Ok(Some(1));
     }
-    listen(alloc, node, actor, nodes, queues, out)
+    Ok(Some(0))
 }
 
-/// Visits a node, where messages wait for it: it is dialed, and gets one after the other, until none waits. What its
-/// answers make wait for it is sent in the same visit. Where it can't be reached, fails or ends, what waits for it is
-/// dropped.
+/// What comes of a fault of a message that was to be sent: where the link failed nothing, and else the drive ends.
+fn unsent(fault: Fault) -> Result<Option<u32>, Ended>
+    ensures value { result ≡ unsent_by fault }
+    ensures cause { (before : ℕ) (now : ℕ) (old : Option (List ℕ)) (new : Option (List ℕ)) → IfErr result (IsEnding before now old new) }
+    ensures unheard { ((frame : FrameFault) → fault ≢ Fault.BadFrame frame) → (off : Option FrameFault) → IfErr result (IsOffAs off) }
+    ensures none { IfOk result (λ due. due ≡ None) }
+{
+    match fault {
+        Fault::Link => Ok(None),
+        Fault::BadFrame(frame) => Err(Ended::BadFrame(frame)),
+        Fault::NoMemory => Err(Ended::NoMemory),
+    }
+}
+
+/// How many answers are due by what was sent, and whether no call failed.
+struct Sent {
+    due: u32,
+    is_whole: bool,
+}
+
+/// Sends up to so many of the messages that wait for the present node, the first ones first. It sends no more where a call
+/// failed: what was sent before may still be answered. While it sends no answer is taken, so that the answers of all of them
+/// have to find room on the way: at most 128 may be due.
+fn send_some<A: Actor, N: Nodes>(
+    alloc: Global,
+    node: NodeId,
+    most: u32,
+    actor: &A,
+    nodes: &mut N,
+    queues: &mut Queues,
+) -> Result<Sent, Ended>
+    requires { most ≤ 128 }
+    ensures held { (who : Driver) (c : Config) (first : ℕ) (s : State) (far : Far) (written : Option (List ℕ)) → IsInBounds c
+        → WithNode (N.tells nodes.old) c node far → Holds (A.stands actor.now) c first s far queues.old
+        → (N.silent nodes.new ≡ true) ⊎ GoesOn who (IsBroken (N.faults nodes.old) (N.faults nodes.new) (N.endings nodes.old) (N.endings nodes.new)) (Visiting c node) (VisitEnd c node) (A.stands actor.now) (Answering (N.tells nodes.new) c node (due_of result)) c first s queues.new written written result }
+    // No more of them than that are taken out of the queue.
+    ensures few { TakesUpTo most queues.old node queues.new }
+    ensures silent { N.silent nodes.old ≡ true → N.silent nodes.new ≡ true }
+    ensures cause { (before : ℕ) (now : ℕ) (old : Option (List ℕ)) (new : Option (List ℕ)) → IfErr result (IsEnding before now old new) }
+    ensures off { IfErr result (IsOffAs (N.off nodes.new)) }
+    ensures same { N.off nodes.new ≡ N.off nodes.old }
+    ensures counts { AreLater (N.faults nodes.old) (N.faults nodes.new) (N.endings nodes.old) (N.endings nodes.new) }
+    ensures broken { IfOk result (λ sent. sent.is_whole ≡ false → IsBroken (N.faults nodes.old) (N.faults nodes.new) (N.endings nodes.old) (N.endings nodes.new)) }
+{
+    let mut due = 0;
+    'messages: for _ in 0..most {
+        let Some(message) = queues.next(node) else {
+            return Ok(Sent {
+                due,
+                is_whole: true,
+            });
+        };
+        let Some(answers) = send_one(alloc, node, &message, actor, nodes)? else {
+            return Ok(Sent {
+                due,
+                is_whole: false,
+            });
+        };
+        due += answers;
+    }
+    Ok(Sent {
+        due,
+        is_whole: true,
+    })
+}
+
+/// Sends up to as many of the messages that wait for the present node as the queues tell, and then takes the answers that are
+/// due by them. False where the node fails or has ended.
+fn exchange<A: Actor, N: Nodes, O: Sink>(
+    alloc: Global,
+    node: NodeId,
+    actor: &mut A,
+    nodes: &mut N,
+    queues: &mut Queues,
+    out: &mut O,
+) -> Result<bool, Ended>
+    ensures held { (who : Driver) → IsDriverOf who (A.own actor.old) → (c : Config) (first : ℕ) (s : State) (far : Far) → IsInBounds c → has_node c node ≡ true
+        → WithNode (N.tells nodes.old) c node far → Holds (A.stands actor.old) c first s far queues.old
+        → (N.silent nodes.new ≡ true) ⊎ GoesOn who (IsBroken (N.faults nodes.old) (N.faults nodes.new) (N.endings nodes.old) (N.endings nodes.new)) (Visiting c node) (VisitEnd c node) (A.stands actor.new) (WithNode (N.tells nodes.new) c node) c first s queues.new (Some (O.written out.old)) (Some (O.written out.new)) result }
+    ensures silent { N.silent nodes.old ≡ true → N.silent nodes.new ≡ true }
+    ensures itself { A.own actor.new ≡ A.own actor.old }
+    ensures since { A.since actor.old actor.new }
+    ensures cause { IfErr result (IsEnding (O.faults out.old) (O.faults out.new) (Some (O.written out.old)) (Some (O.written out.new))) }
+    ensures off { IfErr result (IsOffAs (N.off nodes.new)) }
+    ensures ended { N.off nodes.old ≡ None → EndsOff (N.off nodes.new) result }
+    ensures later { IsLater (O.faults out.old) (O.faults out.new) (Some (O.written out.old)) (Some (O.written out.new)) }
+    ensures counts { AreLater (N.faults nodes.old) (N.faults nodes.new) (N.endings nodes.old) (N.endings nodes.new) }
+    ensures broken { IfOk result (λ on. on ≡ false → IsBroken (N.faults nodes.old) (N.faults nodes.new) (N.endings nodes.old) (N.endings nodes.new)) }
+{
+    let most = queues.in_flight();
+    let Sent { due, is_whole } = send_some(alloc, node, most, actor, nodes, queues)?;
+    let is_on = listen_all(alloc, node, due, actor, nodes, queues, out)?;
+    if is_whole {
+        return Ok(is_on);
+    }
+    Ok(false)
+}
+
+/// Visits a node, where messages wait for it: it is dialed, and gets up to as many of them as the queues tell, whose answers are
+/// taken then, and so on until none waits. What its answers make wait for it is sent in the same visit. Where it can't be
+/// reached, fails or ends, what waits for it is dropped.
 pub fn visit<A: Actor, N: Nodes, O: Sink>(
     alloc: Global,
     node: NodeId,
@@ -275,11 +455,12 @@ pub fn visit<A: Actor, N: Nodes, O: Sink>(
         }
     }
     'frames: for _ in 0..u64::MAX {
-        let Some(message) = queues.next(node) else {
-            return Ok(());
-        };
-        if !exchange(alloc, node, &message, actor, nodes, queues, out)? {
+        if !exchange(alloc, node, actor, nodes, queues, out)? {
             queues.drop_all(node);
+            return Ok(());
+        }
+        let waits = queues.has(node);
+        if !waits {
             return Ok(());
         }
     }

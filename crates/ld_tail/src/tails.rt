@@ -62,7 +62,7 @@ fn drive<G: Register, N: Nodes, O: Sink>(
     let Ok(_) = reading.look(alloc, from.epoch()) else {
         return Err(Ended::NoMemory);
     };
-    let Ok(mut queues) = Queues::new(alloc) else {
+    let Ok(mut queues) = Queues::new(alloc, 1) else {
         return Err(Ended::NoMemory);
     };
     let Ok(heard) = reading.open(alloc, config, from, until, style) else {

@@ -92,7 +92,7 @@ fn of_command(command: &Option<Command>) -> [u64; 7] {
             &words.of,
             u64::from(words.batches),
             u64::from(words.moves),
-            0,
+            u64::from(words.in_flight),
         ),
         Some(Command::Tail(words)) => of_log(
             5,
@@ -181,7 +181,7 @@ fn words_ask_to_follow(rt: HostRuntime) -> Result<(), Fail> {
 }
 
 #[test]
-fn words_ask_for_crowds_and_looks(rt: HostRuntime) -> Result<(), Fail> {
+fn words_may_leave_options_out(rt: HostRuntime) -> Result<(), Fail> {
     let most = u64::MAX;
     for (line, more, expected) in [
         (CROWD, "", [3, 1, 0, most, 0, 1_000, 60]),
@@ -206,6 +206,13 @@ fn words_ask_for_crowds_and_looks(rt: HostRuntime) -> Result<(), Fail> {
             [7, 7, 7_000, 100, 1, 0, 0],
         ),
         (STATUS, " --epochs 0", [0, 0, 0, 0, 0, 0, 0]),
+        (
+            APPEND,
+            " --in-flight 128",
+            [4, 65_535, 65_519, 1_000_000, 1, 0, 128],
+        ),
+        (APPEND, " --in-flight 129", [0, 0, 0, 0, 0, 0, 0]),
+        (APPEND, " --in-flight 0", [0, 0, 0, 0, 0, 0, 0]),
     ] {
         let mut words = line.to_string(rt.alloc())?;
         words.push_str(more)?;
@@ -223,7 +230,7 @@ fn words_ask_for_commands(rt: HostRuntime) -> Result<(), Fail> {
             [2, 18_446_744_073_709_551_615, 100_000, 0, 0, 0, 0],
         ),
         (NODE, [3, 3, 65_535, 1_000_000_000, 1, 0, 0]),
-        (APPEND, [4, 65_535, 65_519, 1_000_000, 1, 0, 0]),
+        (APPEND, [4, 65_535, 65_519, 1_000_000, 1, 0, 1]),
         (TAIL, [5, 1, 7_000, 9, 1, 1, 4_294_967_296]),
         ("help", [0, 0, 0, 0, 0, 0, 0]),
     ];
@@ -245,6 +252,33 @@ fn named(alloc: Global, line: &str) -> Result<(bool, bool, u64, u32), Fail> {
         Some(store) => Ok((store.as_str() == "s", there, of_listen(&places.listen), 0)),
         None => Ok((false, there, of_reach(&places.reach), places.limit)),
     }
+}
+
+/// Whether the line asks for a command that tells nothing but the cause of a failure.
+fn is_quiet(alloc: Global, line: &str) -> Result<bool, Fail> {
+    let words = words_of(alloc, line)?;
+    match places(alloc, &words)? {
+        Some(places) => Ok(places.quiet),
+        None => Ok(false),
+    }
+}
+
+#[test]
+fn a_node_may_be_quiet(rt: HostRuntime) -> Result<(), Fail> {
+    for (line, more, expected) in [
+        (NODE, "", false),
+        (NODE, " --quiet", true),
+        (CROWD, "", false),
+        (CROWD, " --idle 9 --quiet", true),
+        (NODE, " --quiet --quiet", false),
+        (APPEND, "", false),
+        (APPEND, " --quiet", false),
+    ] {
+        let mut words = line.to_string(rt.alloc())?;
+        words.push_str(more)?;
+        assert_eq!(rt; is_quiet(rt.alloc(), words.as_str())?, expected);
+    }
+    Ok(())
 }
 
 const AT: &str =

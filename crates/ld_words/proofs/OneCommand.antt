@@ -90,18 +90,18 @@ one_turns : (rows : List Row) (o : Option Text) (m n : ℕ)
 one_turns rows None m n x y = one_number _ rows 1 1000000000 m n (omega arith) x y
 one_turns rows (Some text) m n x y = one_of _ 1 1000000000 (2 ^ 64 - 1) m n (omega arith) x y
 
-node_of : ℕ → Config → Text → Text → Listen → ℕ → Bool → NodeWords
-node_of id config store register listen turns format =
-    record { id = id; config = config; store = store; register = register; listen = listen; turns = turns; format = format }
+node_of : ℕ → Config → Text → Text → Listen → ℕ → Bool → Bool → NodeWords
+node_of id config store register listen turns format quiet =
+    record { id = id; config = config; store = store; register = register; listen = listen; turns = turns; format = format; quiet = quiet }
 
-congruent : {A B C D E F G X : Type 0} (f : A → B → C → D → E → F → G → X) (a b : A) (c d : B) (g h : C) (i j : D) (k l : E) (m n : F) (o p : G)
-    → a ≡ b → c ≡ d → g ≡ h → i ≡ j → k ≡ l → m ≡ n → o ≡ p → f a c g i k m o ≡ f b d h j l n p
-congruent f a b c d g h i j k l m n o p e1 e2 e3 e4 e5 e6 e7 = cc
+congruent : {A B C D E F G X : Type 0} (f : A → B → C → D → E → F → G → G → X) (a b : A) (c d : B) (g h : C) (i j : D) (k l : E) (m n : F) (o p q r : G)
+    → a ≡ b → c ≡ d → g ≡ h → i ≡ j → k ≡ l → m ≡ n → o ≡ p → q ≡ r → f a c g i k m o q ≡ f b d h j l n p r
+congruent f a b c d g h i j k l m n o p q r e1 e2 e3 e4 e5 e6 e7 e8 = cc
 
 one_node : (rows : List Row) (a b : NodeWords) → IsNodeWords rows a → IsNodeWords rows b → a ≡ b
 unfolding node_of
 one_node rows a b x y =
-    congruent node_of a.id b.id a.config b.config a.store b.store a.register b.register a.listen b.listen a.turns b.turns a.format b.format
+    congruent node_of a.id b.id a.config b.config a.store b.store a.register b.register a.listen b.listen a.turns b.turns a.format b.format a.quiet b.quiet
     (one_number _ rows 1 16 a.id b.id (omega arith) x.id y.id)
     (one_config _ rows a.config b.config x.config y.config)
     (one_text _ rows a.store b.store x.files.first y.files.first)
@@ -109,6 +109,7 @@ one_node rows a b x y =
     (one_listen rows a.listen b.listen x.listen y.listen)
     (one_turns rows (first_of (codes "peers") rows) a.turns b.turns x.turns y.turns)
     (x.format ∙ sym y.format)
+    (x.quiet ∙ sym y.quiet)
 
 one_lsn : (name : Text) (rows : List Row) (v w : ℕ) → IsLsn name rows v → IsLsn name rows w → v ≡ w
 one_lsn name rows v w x y = one_number_text v w x.bits y.bits (one_text name rows (lsn_text v) (lsn_text w) x.text y.text)
@@ -228,15 +229,21 @@ one_log rows a b x y =
 three : {A B C X : Type 0} (f : A → B → C → X) (a b : A) (c d : B) (g h : C) → a ≡ b → c ≡ d → g ≡ h → f a c g ≡ f b d h
 three f a b c d g h e1 e2 e3 = cc
 
-append_of : LogWords → Bool → Bool → Bool → AppendWords
-append_of w batches moves text = record { of = w; batches = batches; moves = moves; text = text }
+append_of : LogWords → ℕ → Bool → Bool → Bool → AppendWords
+append_of w in_flight batches moves text = record { of = w; in_flight = in_flight; batches = batches; moves = moves; text = text }
 
-fourfold : {A B X : Type 0} (f : A → B → B → B → X) (a b : A) (c d g h i j : B) → a ≡ b → c ≡ d → g ≡ h → i ≡ j → f a c g i ≡ f b d h j
-fourfold f a b c d g h i j e1 e2 e3 e4 = cc
+fivefold : {A B C X : Type 0} (f : A → B → C → C → C → X) (a b : A) (c d : B) (g h i j k l : C) → a ≡ b → c ≡ d → g ≡ h → i ≡ j → k ≡ l → f a c g i k ≡ f b d h j l
+fivefold f a b c d g h i j k l e1 e2 e3 e4 e5 = cc
 
 one_append : (rows : List Row) (a b : AppendWords) → IsAppendWords rows a → IsAppendWords rows b → a ≡ b
 unfolding append_of
-one_append rows a b x y = fourfold append_of a.of b.of a.batches b.batches a.moves b.moves a.text b.text (one_log rows a.of b.of x.of y.of) (x.batches ∙ sym y.batches) (x.moves ∙ sym y.moves) (x.text ∙ sym y.text)
+one_append rows a b x y =
+    fivefold append_of a.of b.of a.in_flight b.in_flight a.batches b.batches a.moves b.moves a.text b.text
+    (one_log rows a.of b.of x.of y.of)
+    (one_of _ 1 128 1 a.in_flight b.in_flight (omega arith) x.in_flight y.in_flight)
+    (x.batches ∙ sym y.batches)
+    (x.moves ∙ sym y.moves)
+    (x.text ∙ sym y.text)
 
 tail_of : LogWords → ℕ → ℕ → Style → ℕ → Shown → TailWords
 tail_of w first last style pause shown = record { of = w; from = first; until = last; style = style; pause = pause; shown = shown }

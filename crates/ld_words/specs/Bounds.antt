@@ -3,6 +3,7 @@ use Rattle.std.specs.Prelude.{◌≡◌, ◌≤◌, List, Bool, true, map}
 use Rattle.ld_ids.specs.Set.{members}
 use Rattle.ld_config.specs.Bounds.{IsInBounds}
 use Rattle.ld_words.specs.declared.command.LogWords.{LogWords}
+use Rattle.ld_words.specs.declared.command.AppendWords.{AppendWords}
 use Rattle.ld_words.specs.declared.command.TailWords.{TailWords}
 use Rattle.ld_words.specs.declared.command.RegisterWords.{RegisterWords}
 use Rattle.ld_words.specs.declared.command.StatusWords.{StatusWords}
@@ -23,7 +24,13 @@ pub record IsLogInBounds (w : LogWords) : Type 0 where
   pub log : has_log w.config w.log ≡ true
   pub nodes : HasEach w.config.nodes w.reach
 
--- the same, and there is some number from the first to the last
+-- the same, and a visit writes 1 to 128 messages before it reads their answers
+pub record IsAppendInBounds (w : AppendWords) : Type 0 where
+  pub of : IsLogInBounds w.of
+  pub some : 1 ≤ w.in_flight
+  pub few : w.in_flight ≤ 128
+
+-- the configuration and the log are in their bounds, and there is some number from the first to the last
 pub record IsTailInBounds (t : TailWords) : Type 0 where
   pub of : IsLogInBounds t.of
   pub some : 1 ≤ t.from
@@ -48,7 +55,7 @@ HasBounds Replay = Unit {0}
 HasBounds (Exercise seed events) = Unit {0}
 HasBounds (Node n) = IsInBounds n.config
 HasBounds (Crowd c) = IsInBounds c.node.config
-HasBounds (Append w) = IsLogInBounds w.of
+HasBounds (Append w) = IsAppendInBounds w
 HasBounds (Tail t) = IsTailInBounds t
 HasBounds (Register r) = IsRegisterInBounds r
 HasBounds (Status s) = IsStatusInBounds s

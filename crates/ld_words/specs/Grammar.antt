@@ -34,7 +34,7 @@ files_shape = record (new_shape (codes "node")) {
 abbrev pub node_shape : Shape
 node_shape = record (new_shape (codes "node")) {
   rules = option_rule (codes "id") ∷ option_rule (codes "config") ∷ option_rule (codes "store") ∷ option_rule (codes "register")
-      ∷ choice_rule (codes "port") ∷ choice_rule (codes "listen") ∷ choice_rule (codes "turns") ∷ choice_rule (codes "peers") ∷ choice_rule (codes "idle") ∷ flag_rule (codes "format") ∷ [];
+      ∷ choice_rule (codes "port") ∷ choice_rule (codes "listen") ∷ choice_rule (codes "turns") ∷ choice_rule (codes "peers") ∷ choice_rule (codes "idle") ∷ flag_rule (codes "format") ∷ flag_rule (codes "quiet") ∷ [];
 }
 
 -- a command over a log
@@ -47,7 +47,7 @@ log_shape name = record (new_shape name) {
 abbrev pub append_shape : Shape
 append_shape = record (new_shape (codes "append")) {
   rules = option_rule (codes "config") ∷ option_rule (codes "log") ∷ option_rule (codes "register")
-      ∷ choice_rule (codes "port") ∷ choice_rule (codes "at") ∷ choice_rule (codes "limit") ∷ option_rule (codes "rounds") ∷ flag_rule (codes "batches") ∷ flag_rule (codes "move") ∷ flag_rule (codes "text") ∷ [];
+      ∷ choice_rule (codes "port") ∷ choice_rule (codes "at") ∷ choice_rule (codes "limit") ∷ option_rule (codes "rounds") ∷ choice_rule (codes "in-flight") ∷ flag_rule (codes "batches") ∷ flag_rule (codes "move") ∷ flag_rule (codes "text") ∷ [];
 }
 
 abbrev pub tail_shape : Shape

@@ -195,6 +195,7 @@ pub record IsNodeWords (rows : List Row) (n : NodeWords) : Type 0 where
   pub listen : IsListen rows n.listen
   pub turns : IsTurns rows n.turns
   pub format : n.format ≡ is_true (first_of (codes "format") rows)
+  pub quiet : n.quiet ≡ is_true (first_of (codes "quiet") rows)
 
 -- nothing is said of several peers at once
 pub record IsInTurn (rows : List Row) : Type 0 where
@@ -239,8 +240,10 @@ pub record IsRange (rows : List Row) (first last : ℕ) : Type 0 where
   pub some : 1 ≤ first
   pub order : first ≤ last
 
+-- one message is in flight at a time where the argument isn't given
 pub record IsAppendWords (rows : List Row) (w : AppendWords) : Type 0 where
   pub of : IsLogWords rows w.of
+  pub in_flight : IsNumberOr (codes "in-flight") rows 1 128 1 w.in_flight
   pub batches : w.batches ≡ is_true (first_of (codes "batches") rows)
   pub moves : w.moves ≡ is_true (first_of (codes "move") rows)
   pub text : w.text ≡ is_true (first_of (codes "text") rows)
@@ -312,11 +315,12 @@ IsNoCommand words = (command : Command) → Asks words command → ⊥
 
 -- ---- places
 
--- these are the files of the node, and where it listens
+-- these are the files of the node, where it listens, and whether it is quiet
 pub record ArePlacesOfNode (n : NodeWords) (places : Places) : Type 0 where
   pub store : places.store ≡ Some n.store
   pub register : places.register ≡ n.register
   pub listen : places.listen ≡ n.listen
+  pub quiet : places.quiet ≡ n.quiet
 
 -- and these are its peers, where it serves several at once
 pub record ArePlacesOfCrowd (c : CrowdWords) (places : Places) : Type 0 where
@@ -329,11 +333,13 @@ pub record ArePlacesOfLog (w : LogWords) (places : Places) : Type 0 where
   pub register : places.register ≡ w.register
   pub reach : places.reach ≡ w.reach
   pub limit : places.limit ≡ w.limit
+  pub quiet : places.quiet ≡ false
 
 -- this is the file of the register, and there is nothing else
 pub record ArePlacesOfRegister (r : RegisterWords) (places : Places) : Type 0 where
   pub store : places.store ≡ None
   pub register : places.register ≡ r.register
+  pub quiet : places.quiet ≡ false
 
 -- this is the file of the register, and where the nodes are
 pub record ArePlacesOfStatus (s : StatusWords) (places : Places) : Type 0 where
@@ -341,6 +347,7 @@ pub record ArePlacesOfStatus (s : StatusWords) (places : Places) : Type 0 where
   pub register : places.register ≡ s.register
   pub reach : places.reach ≡ s.reach
   pub limit : places.limit ≡ s.limit
+  pub quiet : places.quiet ≡ false
 
 -- these are the files of the command, and where it listens or dials
 abbrev pub ArePlacesOf : Command → Places → Type 0

@@ -44,6 +44,8 @@ pub struct NodeWords {
     pub turns: u64,
     /// Whether a blank store is formatted first.
     pub format: bool,
+    /// Whether nothing but the cause of a failure is told on standard error.
+    pub quiet: bool,
 }
 
 /// What the arguments say of a node that serves several peers at once.
@@ -87,6 +89,8 @@ pub struct LogWords {
 pub struct AppendWords {
     /// The log, and how it is reached.
     pub of: LogWords,
+    /// How many messages a visit of a node writes at most before it reads their answers, 1 to 128.
+    pub in_flight: u32,
     /// Whether each line is the messages of a batch, with commas between them.
     pub batches: bool,
     /// Whether the log may move: whether the configuration may name other nodes than the log's greatest epoch has, another
@@ -170,4 +174,6 @@ pub struct Places {
     pub limit: u32,
     /// The node's peers, where it serves several at once.
     pub company: Option<Company>,
+    /// Whether nothing but the cause of a failure is told on standard error. A command that isn't a node has false here.
+    pub quiet: bool,
 }

@@ -65,7 +65,8 @@ fn node_command<'a>(alloc: Global) -> Result<Command<'a>, AllocError>
         .arg(choice(alloc, "turns"))?
         .arg(choice(alloc, "peers"))?
         .arg(choice(alloc, "idle"))?
-        .arg(flag(alloc, "format"))
+        .arg(flag(alloc, "format"))?
+        .arg(flag(alloc, "quiet"))
 }
 
 /// A command of this name over a log.
@@ -87,6 +88,7 @@ fn append_command<'a>(alloc: Global) -> Result<Command<'a>, AllocError>
 {
     log_command(alloc, "append")?
         .arg(option(alloc, "rounds"))?
+        .arg(choice(alloc, "in-flight"))?
         .arg(flag(alloc, "batches"))?
         .arg(flag(alloc, "move"))?
         .arg(flag(alloc, "text"))

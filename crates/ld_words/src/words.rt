@@ -12,7 +12,7 @@ ghost use Rattle.ld_words.specs.declared.command.StatusWords.{StatusWords as Ask
 ghost use Rattle.ld_words.specs.declared.command.Command.{Command as Choice};
 ghost use Rattle.ld_words.specs.Meaning.{IsExercise, AreFiles, IsTurns, IsNodeWords, IsLogWords, IsAppendWords, IsRange, IsTailWords, IsRegisterWords, IsStatusWords, is_true, style_of, shown_of, IsNamed, IsFound, Asks, IsNoCommand, ArePlacesOf, ArePlacesOfNode, ArePlacesOfLog, HasNoPlaces, AskForPlaces, AskForNoPlaces};
 ghost use Rattle.ld_words.specs.Refuses.{Refuses};
-ghost use Rattle.ld_words.specs.Bounds.{IsLogInBounds, IsTailInBounds, IsRegisterInBounds, IsStatusInBounds, HasBounds};
+ghost use Rattle.ld_words.specs.Bounds.{IsLogInBounds, IsAppendInBounds, IsTailInBounds, IsRegisterInBounds, IsStatusInBounds, HasBounds};
 
 use crate::arguments::{config, file_name, flag, log_of, lsn, member, number, number_or, text};
 use crate::following::{pause, rounds, until};
@@ -80,6 +80,7 @@ fn node_words(alloc: Global, matches: &ArgMatches<'_>) -> Result<NodeWords, Refu
         listen,
         turns,
         format: flag(matches, "format"),
+        quiet: flag(matches, "quiet"),
     })
 }
 
@@ -140,11 +141,13 @@ fn append_words(alloc: Global, matches: &ArgMatches<'_>) -> Result<AppendWords, 
     ensures says { MatchResult result
         (IsAppendWords (rows_of (found_of matches.now)))
         (Refuses ((w : Appending) → IsAppendWords (rows_of (found_of matches.now)) w → ⊥)) }
-    ensures bounds { IfOk result (λ w. IsLogInBounds w.of) }
+    ensures bounds { IfOk result IsAppendInBounds }
 {
     let of = log_words(alloc, matches)?;
+    let in_flight = number_or(matches, "in-flight", 1, 128, 1)?;
     Ok(AppendWords {
         of,
+        in_flight: in_flight as u32,
         batches: flag(matches, "batches"),
         moves: flag(matches, "move"),
         text: flag(matches, "text"),
@@ -362,6 +365,7 @@ fn places_of(command: Command) -> Option<Places>
             reach: Reach::Above(0),
             limit: 10_000,
             company: None,
+            quiet: false,
         }),
         Command::Status(words) => Some(Places {
             store: None,
@@ -370,11 +374,12 @@ fn places_of(command: Command) -> Option<Places>
             reach: words.reach,
             limit: words.limit,
             company: None,
+            quiet: false,
         }),
     }
 }
 
-/// The files of a node, where it listens, and its peers, where it serves several at once.
+/// The files of a node, where it listens, its peers, where it serves several at once, and whether it is quiet.
 fn node_places(node: NodeWords, company: Option<Company>) -> Places
     ensures places { ArePlacesOfNode node result }
     ensures company { result.company ≡ company }
@@ -386,6 +391,7 @@ fn node_places(node: NodeWords, company: Option<Company>) -> Places
         reach: Reach::Above(0),
         limit: 10_000,
         company,
+        quiet: node.quiet,
     }
 }
 
@@ -400,6 +406,7 @@ fn log_places(words: LogWords) -> Places
         reach: words.reach,
         limit: words.limit,
         company: None,
+        quiet: false,
     }
 }
 

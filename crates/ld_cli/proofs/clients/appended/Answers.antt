@@ -35,7 +35,7 @@ returns-in_default-new g c = record {
 }
 
 pub append_lines-requires : goal.append_lines-requires
-append_lines-requires g c = (first_fits c.args.words.now.of.config c.args.words.now.of.log c.args.words.now.of.log c.in-Some.spec c.requires.bounds.config c.in-Some.ensures.found.0 c.in-Some.ensures.found.1 refl).is
+append_lines-requires g c = (first_fits c.args.words.now.of.config c.args.words.now.of.log c.args.words.now.of.log c.in-Some.spec c.requires.bounds.of.config c.in-Some.ensures.found.0 c.in-Some.ensures.found.1 refl).is
 
 pub returns : goal.returns
 returns g c =
@@ -56,7 +56,7 @@ returns g c =
       appended = λ s far told begins unset. subst (λ (i : Option Input). (g.N.Nodes.silent c.append_lines.new.nodes ≡ true) ⊎ EndsDrive before now (went (codes "s") c.args.words.now.of.log i s) c.append_lines.result) fresh
           (subst (λ (l : ℕ). (g.N.Nodes.silent c.append_lines.new.nodes ≡ true) ⊎ EndsDrive before now (went (codes "s") l held s) c.append_lines.result) log
           (subst (λ (name : List ℕ). (g.N.Nodes.silent c.append_lines.new.nodes ≡ true) ⊎ EndsDrive before now (went name c.in-Some.spec.log held s) c.append_lines.result)
-          c.in-Ok.ensures (c.append_lines.ensures.appended s far c.requires.bounds.config (spec_so c.args.words.now.of.config c.args.words.now.of.log c.in-Some.spec found) (unset_so c.args.words.now.of.config s c.args.words.now.of.log c.in-Some.spec found.0 unset) told begins)));
+          c.in-Ok.ensures (c.append_lines.ensures.appended s far c.requires.bounds.of.config (spec_so c.args.words.now.of.config c.args.words.now.of.log c.in-Some.spec found) (unset_so c.args.words.now.of.config s c.args.words.now.of.log c.in-Some.spec found.0 unset) told begins)));
       ends = of_same (λ (n : ℕ). EndsDrive before now (end c.args.words.now.of.log coming n) c.append_lines.result) reads _
           (subst (λ (l : ℕ). EndsDrive before now (end l coming reads) c.append_lines.result) log (subst (λ (i : Option Input). EndsDrive before now (end c.in-Some.spec.log i reads) c.append_lines.result) fresh c.append_lines.ensures.ends)) (search rules);
       refused = c.append_lines.ensures.refused;

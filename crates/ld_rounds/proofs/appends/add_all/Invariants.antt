@@ -10,8 +10,8 @@ use Rattle.ld_rounds.specs.Rounds.{Adding}
 use Rattle.ld_rounds.specs.Feeding.{upcoming, SameBehind}
 use Rattle.ld_rounds.proofs.appends.add_all.Given as goal
 
-abbrev pub invariant-payloads : goal.invariant-payloads
-invariant-payloads g l =
+abbrev pub invariant-requests : goal.invariant-requests
+invariant-requests g l =
     ((own : Own) (c : Config) (first : ℕ) (s : State) (far : Far) → IsInBounds c → Holds (g.A.Actor.stands l.fn.sequencer) c first s far l.fn.queues
     → Went (driver l.name own) ⊥ (Adding l.name c (upcoming l.fn.feed.held (g.P.Payloads.coming l.fn.input)) (upcoming l.feed.held (g.P.Payloads.coming l.input))) (g.A.Actor.stands l.sequencer) (λ now. now ≡ far) c first s l.queues (Some (g.O.Sink.written l.fn.out)) (Some (g.O.Sink.written l.out)))
     × IsLater (g.O.Sink.faults l.fn.out) (g.O.Sink.faults l.out) (Some (g.O.Sink.written l.fn.out)) (Some (g.O.Sink.written l.out))

@@ -1,6 +1,5 @@
-use Rattle.std.proofs.Common.{◌≡◌, ◌∙◌, refl, arith, Err, Some}
+use Rattle.std.proofs.Common.{◌≡◌, refl, Err, Some}
 use Rattle.std.proofs.lemmas.Result.{err_from_is_err_and}
-use Rattle.ld_machine.specs.Run.{state_after}
 use Rattle.ld_rounds.specs.Acts.{driver}
 use Rattle.ld_rounds.specs.Feeding.{upcoming}
 use Rattle.ld_rounds.specs.Rounds.{Adding, Adds, AddsUntil, IsDry}
@@ -27,7 +26,7 @@ returns-clause-held g c own k first s far b h =
     let i = upcoming c.args.feed.now.held (g.P.Payloads.coming c.args.input.now) in
     let j = upcoming c.fill.new.self.held (g.P.Payloads.coming c.fill.new.input) in
     let m = upcoming c.add_all.new.feed.held (g.P.Payloads.coming c.add_all.new.input) in
-    let dry = IsDry c.add_all.new.feed.is_over (g.P.Payloads.ready c.add_all.new.input) in
+    let dry = IsDry c.add_all.new.feed.is_over (g.P.Payloads.ready c.add_all.new.input) c.add_all.new.feed.held (g.A.Appends.settled c.add_all.new.sequencer) in
     goes_such (driver name own) ⊥ k first b {R = Unit {0}} (Adds name k dry j m) (Adds name k dry i m) (AddsUntil name k j) (AddsUntil name k i) ⊥ (g.A.Actor.stands c.add_all.new.sequencer) (λ now. now ≡ far) (λ now. now ≡ far) s c.add_all.new.queues (Some (g.O.Sink.written c.args.out.now)) (Some (g.O.Sink.written c.add_all.new.out)) c.add_all.result (λ x. x) (λ f t. t)
     (λ es x. (x.0, stays_fed k i j m s es c.in_ok-fill.ensures.stays x.1)) (each_end c.add_all.result (λ e es x. (x.0, stays_until k i j e s es c.in_ok-fill.ensures.stays x.1)))
     (c.add_all.ensures.held own k first s far b h)

@@ -3,7 +3,7 @@ use Rattle.std.proofs.lemmas.Result.{err_from_is_err_and}
 use Rattle.ld_machine.specs.State.{State}
 use Rattle.ld_rounds.specs.Feeding.{upcoming}
 use Rattle.ld_rounds.specs.Acts.{driver}
-use Rattle.ld_rounds.specs.Rounds.{IsRetry, MayRetry, AreAppends, Adds, AddsUntil, Prepares, PreparesUntil, AreFilling, IsDry}
+use Rattle.ld_rounds.specs.Rounds.{IsRetry, MayRetry, AreRequests, Adds, AddsUntil, Prepares, PreparesUntil, AreFilling, IsDry}
 use Rattle.ld_rounds.proofs.Joining.{splits_end, feeds_join, until_join, feeds_until, retry_feeds, after_none}
 use Rattle.ld_rounds.proofs.Endings.{later_on}
 use Rattle.ld_rounds.proofs.Feeding.{partly, of_ending, append_cause_since, apart_on, same_here, never}
@@ -15,9 +15,9 @@ returns-then-is_first-clause-held g c own k first s far b h =
     let name = c.args.name.now in
     let i = upcoming c.args.feed.now.held (g.P.Payloads.coming c.args.input.now) in
     let j = upcoming c.add_first.new.feed.held (g.P.Payloads.coming c.add_first.new.input) in
-    let dry = IsDry c.add_first.new.feed.is_over (g.P.Payloads.ready c.add_first.new.input) in
+    let dry = IsDry c.add_first.new.feed.is_over (g.P.Payloads.ready c.add_first.new.input) c.add_first.new.feed.held (g.A.Appends.settled c.add_first.new.sequencer) in
     rw c.if-is_first.true (goes_such (driver c.args.name.now own) ⊥ k first b {R = Unit {0}} (Adds name k dry i j) (Prepares name k dry true i j) (AddsUntil name k i) (PreparesUntil name k true i) ⊥ (g.A.Actor.stands c.add_first.new.sequencer) (λ now. now ≡ far) (λ now. now ≡ far) s c.add_first.new.queues (Some (g.O.Sink.written c.args.out.now)) (Some (g.O.Sink.written c.add_first.new.out)) c.add_first.result (λ x. x) (λ f t. t)
-    (λ es x. (record { front = []; rest = es; whole = refl; came = refl; goes = subst (λ (t : State). AreFilling name k dry t es) (sym (after_none k s)) x.0 }, x.1)) (each_end c.add_first.result (λ e es x. (record { front = []; rest = es; whole = refl; came = refl; goes = x.0 }, x.1)))
+    (λ es x. (record { front = []; rest = es; whole = refl; came = refl; goes = subst (λ (t : State). AreFilling name k dry t es) (sym (after_none k s)) x.0 }, x.1)) (each_end c.add_first.result (λ e es x. (record { front = []; rest = es; whole = refl; came = refl; goes = subst (λ (t : State). AreRequests name k t es) (sym (after_none k s)) x.0 }, x.1)))
     (c.add_first.ensures.held own k first s far b h))
 
 pub returns-in_err-again-clause-held : goal.returns-in_err-again-clause-held
@@ -27,7 +27,7 @@ returns-in_err-again-clause-held g c own k first s far b h =
     let i = upcoming c.args.feed.now.held (g.P.Payloads.coming c.args.input.now) in
     let e = c.in_err-again.field-0.0 in
     rw (p.1, p.2, c.if-is_first.false) (goes_such (driver c.args.name.now own) ⊥ k first b {R = Unit {0}} (IsRetry name false) (IsRetry name false) (λ e. MayRetry name false) (PreparesUntil name k false i) ⊥ (g.A.Actor.stands c.again.new.sequencer) (λ now. now ≡ far) (λ now. now ≡ far) s c.again.new.queues (Some (g.O.Sink.written c.args.out.now)) (Some (g.O.Sink.written c.again.new.out)) (Err e) (λ x. x) (λ f t. t)
-    (λ es x. x) (λ es x. (splits_end k (MayRetry name false) (AreAppends name) s es x tt, feeds_until k i i e s es (partly _ _ _ _ e c.in_err-again.ensures.cause) (retry_feeds k i name false s es x)))
+    (λ es x. x) (λ es x. (splits_end k (MayRetry name false) (AreRequests name k) s es x tt, feeds_until k i i e s es (partly _ _ _ _ e c.in_err-again.ensures.cause) (retry_feeds k i name false s es x)))
     (c.in_err-again.ensures.held own k first s far b h))
 
 pub returns-in_err-again-clause-cause : goal.returns-in_err-again-clause-cause
@@ -41,7 +41,7 @@ returns-clause-held g c own k first s far b h =
     let i = upcoming c.args.feed.now.held (g.P.Payloads.coming c.args.input.now) in
     let j = upcoming c.add_all.new.feed.held (g.P.Payloads.coming c.add_all.new.input) in
     let w = c.in_ok-again.ensures.held own k first s far b h in
-    let dry = IsDry c.add_all.new.feed.is_over (g.P.Payloads.ready c.add_all.new.input) in
+    let dry = IsDry c.add_all.new.feed.is_over (g.P.Payloads.ready c.add_all.new.input) c.add_all.new.feed.held (g.A.Appends.settled c.add_all.new.sequencer) in
     rw c.if-is_first.false (apart_on (driver c.args.name.now own) ⊥ k first b {R = Unit {0}} (IsRetry name false) (Adds name k dry i j) (Prepares name k dry false i j) (AddsUntil name k i) (PreparesUntil name k false i) (g.A.Actor.stands c.again.new.sequencer) (g.A.Actor.stands c.add_all.new.sequencer) s far c.again.new.queues c.add_all.new.queues (Some (g.O.Sink.written c.args.out.now)) (Some (g.O.Sink.written c.again.new.out)) (Some (g.O.Sink.written c.add_all.new.out)) c.add_all.result
     (λ t es fs x y. (record { front = es; rest = fs; whole = refl; came = x; goes = y.0 }, feeds_join k i i j t es fs (retry_feeds k i name false t es (inr x)) y.1))
     (each_end c.add_all.result (λ e t es fs x y. (record { front = es; rest = fs; whole = refl; came = inr x; goes = y.0 }, until_join k i i e t es fs (retry_feeds k i name false t es (inr x)) y.1))) w

@@ -1,4 +1,4 @@
-use Rattle.std.proofs.Common.{◌≡◌, ◌∙◌, inl, inr, ⊎_elim, Err, true, arith, Bool, Some}
+use Rattle.std.proofs.Common.{◌∙◌, inl, inr, ⊎_elim, Err, false, arith, Bool, Some}
 use Rattle.std.proofs.lemmas.Result.{err_from_is_err_and}
 use Rattle.ld_ids.specs.Set.{members}
 use Rattle.ld_rounds.specs.Acts.{driver}
@@ -19,7 +19,7 @@ returns-in_err-append_round-clause-held g c own is k first s far b there told h 
     let ys = members c.args.set.now in
     let i = upcoming c.args.feed.now.held (g.P.Payloads.coming c.args.input.now) in
     let j = upcoming c.append_round.new.feed.held (g.P.Payloads.coming c.append_round.new.input) in
-    let dry = IsDry c.append_round.new.feed.is_over (g.P.Payloads.ready c.append_round.new.input) in
+    let dry = IsDry c.append_round.new.feed.is_over (g.P.Payloads.ready c.append_round.new.input) c.append_round.new.feed.held false in
     let broken = IsBroken (g.N.Nodes.faults c.args.nodes.now) (g.N.Nodes.faults c.append_round.new.nodes) (g.N.Nodes.endings c.args.nodes.now) (g.N.Nodes.endings c.append_round.new.nodes) in
     let T = AllTaken (g.N.Nodes.tells c.append_round.new.nodes k) in
     rw (p.1, p.2) (⊎_elim (λ quiet. inl quiet)
@@ -34,7 +34,7 @@ returns-clause-held g c own is k first s far b there told h =
     let i = upcoming c.args.feed.now.held (g.P.Payloads.coming c.args.input.now) in
     let j = upcoming c.append_round.new.feed.held (g.P.Payloads.coming c.append_round.new.input) in
     let m = upcoming c.is_done.new.feed.held (g.P.Payloads.coming c.is_done.new.input) in
-    let dry = IsDry c.append_round.new.feed.is_over (g.P.Payloads.ready c.append_round.new.input) in
+    let dry = IsDry c.append_round.new.feed.is_over (g.P.Payloads.ready c.append_round.new.input) c.append_round.new.feed.held false in
     let less = IsBroken (g.N.Nodes.faults c.args.nodes.now) (g.N.Nodes.faults c.append_round.new.nodes) (g.N.Nodes.endings c.args.nodes.now) (g.N.Nodes.endings c.append_round.new.nodes) in
     let broken = IsBroken (g.N.Nodes.faults c.args.nodes.now) (g.N.Nodes.faults c.is_done.new.nodes) (g.N.Nodes.endings c.args.nodes.now) (g.N.Nodes.endings c.is_done.new.nodes) in
     let T = AllTaken (g.N.Nodes.tells c.append_round.new.nodes k) in

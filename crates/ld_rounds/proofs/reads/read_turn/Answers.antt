@@ -1,4 +1,4 @@
-use Rattle.std.proofs.Common.{◌≡◌, ◌∙◌, inl, inr, ⊎_elim, Ok, Err, true, arith, Some}
+use Rattle.std.proofs.Common.{◌∙◌, inl, inr, ⊎_elim, Ok, Err, arith, Some}
 use Rattle.std.proofs.lemmas.Result.{err_from_is_err_and}
 use Rattle.ld_ids.specs.Set.{members}
 use Rattle.ld_rounds.specs.Acts.{driver}

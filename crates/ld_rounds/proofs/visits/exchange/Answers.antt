@@ -1,55 +1,66 @@
-use Rattle.std.proofs.Common.{◌≡◌, ◌⊎◌, ◌∙◌, sym, subst, inl, inr, List, Bool, true, Some}
-use Rattle.ld_msg.specs.declared.msg.Msg.{Msg}
-use Rattle.ld_rounds.specs.Drives.{IsBroken, Went, GoesOn, WithNode, Answering}
+use Rattle.std.proofs.Common.{◌≡◌, Bool, Some, Ok, Err, true, refl, inl, inr, ⊎_elim}
+use Rattle.std.proofs.lemmas.Result.{err_from_is_err_and}
+use Rattle.ld_rounds.specs.Drives.{IsBroken, WithNode, Answering}
 use Rattle.ld_rounds.specs.Rounds.{Visiting, VisitEnd}
-use Rattle.ld_rounds.proofs.Endings.{none_off}
-use Rattle.ld_rounds.proofs.News.{first_waits}
-use Rattle.ld_rounds.proofs.Going.{visiting_on}
-use Rattle.ld_rounds.proofs.Visiting.{handed_on, handed_quietly, unsent, sent_later, broken_since}
+use Rattle.ld_rounds.proofs.Going.{goes_as, visiting_on}
+use Rattle.ld_rounds.proofs.Visiting.{broken_since, broken_until, has_answered}
 use Rattle.ld_rounds.proofs.visits.exchange.Goals as goal
 
-pub returns-in-Err-clause-held : goal.returns-in-Err-clause-held
-returns-in-Err-clause-held g c who is k first s far before rest b there told h q left =
-    let a = c.args.actor.now in
+pub returns-in_err-due-clause-held : goal.returns-in_err-due-clause-held
+returns-in_err-due-clause-held g c who is k first s far b there told h =
+    let p = err_from_is_err_and c.from_residual.result c.from_residual.ensures.1 in
+    let y = c.args.node in
+    let T = g.N.Nodes.tells c.send_some.new.nodes in
     let w = Some (g.O.Sink.written c.args.out.now) in
-    let T = g.N.Nodes.tells c.send.new.self in
-    let to = first_waits first s.network before far.answers c.args.node c.args.message.now rest h.news c.number.ensures.bounds q in
-    subst (λ r. (g.N.Nodes.silent c.send.new.self ≡ true) ⊎ GoesOn who (IsBroken (g.N.Nodes.faults c.args.nodes.now) (g.N.Nodes.faults c.send.new.self) (g.N.Nodes.endings c.args.nodes.now) (g.N.Nodes.endings c.send.new.self)) (Visiting k c.args.node) (VisitEnd k c.args.node) (g.A.Actor.stands a) (WithNode T k c.args.node) k first s c.args.queues.now w w r) (sym c.missed.ensures.value)
-    (unsent who (IsBroken (g.N.Nodes.faults c.args.nodes.now) (g.N.Nodes.faults c.send.new.self) (g.N.Nodes.endings c.args.nodes.now) (g.N.Nodes.endings c.send.new.self)) k first b (g.A.Actor.stands a) (g.met.A.Actor.stands_apart a) s T (g.N.Nodes.silent c.send.new.self) far c.args.node c.args.message.now rest before c.args.queues.now w c.in-Err.fault (g.N.Nodes.faults c.args.nodes.now) (g.N.Nodes.faults c.send.new.self) c.in-Err.ensures.counts (λ r. inl r) told.1 told.0.1 c.number.ensures.bounds h q left
-    (c.in-Err.ensures.sent k far told.0.0 c.args.node told.1 to))
+    rw (p.1, p.2) (⊎_elim (λ quiet. inl quiet)
+    (λ v. inr (goes_as who (IsBroken (g.N.Nodes.faults c.args.nodes.now) (g.N.Nodes.faults c.send_some.new.nodes) (g.N.Nodes.endings c.args.nodes.now) (g.N.Nodes.endings c.send_some.new.nodes)) k first b {R = Bool} (Visiting k y) (VisitEnd k y) (IsBroken (g.N.Nodes.faults c.args.nodes.now) (g.N.Nodes.faults c.send_some.new.nodes) (g.N.Nodes.endings c.args.nodes.now) (g.N.Nodes.endings c.send_some.new.nodes)) (g.A.Actor.stands c.args.actor.now) (Answering T k y 0) (WithNode T k y) s c.send_some.new.queues w w (Err c.in_err-due.field-0.0) (λ l. l) (λ f t. has_answered T k y 0 f refl t) v))
+    (c.in_err-due.ensures.held who k first s far w b told h))
 
-pub returns-then-not-is_answered-clause-held : goal.returns-then-not-is_answered-clause-held
-returns-then-not-is_answered-clause-held g c who is k first s far before rest b there told h q left =
-    let a = c.args.actor.now in
+pub returns-in_err-due-clause-cause : goal.returns-in_err-due-clause-cause
+returns-in_err-due-clause-cause g c =
+    let p = err_from_is_err_and c.from_residual.result c.from_residual.ensures.1 in
     let w = Some (g.O.Sink.written c.args.out.now) in
-    let to = first_waits first s.network before far.answers c.args.node c.args.message.now rest h.news c.number.ensures.bounds q in
-    inr (subst (λ (x : List (List Msg)). Went who (IsBroken (g.N.Nodes.faults c.args.nodes.now) (g.N.Nodes.faults c.send.new.self) (g.N.Nodes.endings c.args.nodes.now) (g.N.Nodes.endings c.send.new.self)) (Visiting k c.args.node) (g.A.Actor.stands a) (WithNode (g.N.Nodes.tells c.send.new.self) k c.args.node) k first s x w w) (sym left)
-    (handed_quietly who (IsBroken (g.N.Nodes.faults c.args.nodes.now) (g.N.Nodes.faults c.send.new.self) (g.N.Nodes.endings c.args.nodes.now) (g.N.Nodes.endings c.send.new.self)) k first b (g.A.Actor.stands a) (g.met.A.Actor.stands_apart a) s (g.N.Nodes.tells c.send.new.self) far c.args.node told.1 told.0.1 c.number.ensures.bounds w before c.args.message.now rest h q (sym c.is_answered.ensures ∙ c.if-not-is_answered.true) (c.in-Ok.ensures.sent k far told.0.0 c.args.node told.1 to)))
+    rw (p.1, p.2) (c.in_err-due.ensures.cause (g.O.Sink.faults c.args.out.now) (g.O.Sink.faults c.args.out.now) w w)
+
+pub returns-in_err-is_on-clause-held : goal.returns-in_err-is_on-clause-held
+returns-in_err-is_on-clause-held g c who is k first s far b there told h =
+    let p = err_from_is_err_and c.from_residual-in_err-is_on.result c.from_residual-in_err-is_on.ensures.1 in
+    let y = c.args.node in
+    let A = g.A.Actor.stands c.args.actor.now in
+    let B = g.A.Actor.stands c.listen_all.new.actor in
+    let T = g.N.Nodes.tells c.send_some.new.nodes in
+    let U = g.N.Nodes.tells c.listen_all.new.nodes in
+    let w = Some (g.O.Sink.written c.args.out.now) in
+    let new = Some (g.O.Sink.written c.listen_all.new.out) in
+    rw (p.1, p.2) (visiting_on who (IsBroken (g.N.Nodes.faults c.args.nodes.now) (g.N.Nodes.faults c.listen_all.new.nodes) (g.N.Nodes.endings c.args.nodes.now) (g.N.Nodes.endings c.listen_all.new.nodes)) k first b {R = Bool} y (IsBroken (g.N.Nodes.faults c.args.nodes.now) (g.N.Nodes.faults c.send_some.new.nodes) (g.N.Nodes.endings c.args.nodes.now) (g.N.Nodes.endings c.send_some.new.nodes)) (IsBroken (g.N.Nodes.faults c.send_some.new.nodes) (g.N.Nodes.faults c.listen_all.new.nodes) (g.N.Nodes.endings c.send_some.new.nodes) (g.N.Nodes.endings c.listen_all.new.nodes)) (g.N.Nodes.silent c.send_some.new.nodes ≡ true) (g.N.Nodes.silent c.listen_all.new.nodes ≡ true) A B (Answering T k y c.in_ok-due.field-0.due) (WithNode U k y) s c.send_some.new.queues c.listen_all.new.queues w w new (Err c.in_err-is_on.field-0.0) (broken_until _ _ _ _ _ _ c.in_err-is_on.ensures.counts) (broken_since _ _ _ _ _ _ c.in_ok-due.ensures.counts)
+    c.in_err-is_on.ensures.silent
+    (λ v. c.in_err-is_on.ensures.held who is k first v.moved.state v.far b there v.told v.moved.holds)
+    (c.in_ok-due.ensures.held who k first s far w b told h))
+
+pub returns-then-is_whole-clause-held : goal.returns-then-is_whole-clause-held
+returns-then-is_whole-clause-held g c who is k first s far b there told h =
+    let y = c.args.node in
+    let A = g.A.Actor.stands c.args.actor.now in
+    let B = g.A.Actor.stands c.listen_all.new.actor in
+    let T = g.N.Nodes.tells c.send_some.new.nodes in
+    let U = g.N.Nodes.tells c.listen_all.new.nodes in
+    let w = Some (g.O.Sink.written c.args.out.now) in
+    let new = Some (g.O.Sink.written c.listen_all.new.out) in
+    visiting_on who (IsBroken (g.N.Nodes.faults c.args.nodes.now) (g.N.Nodes.faults c.listen_all.new.nodes) (g.N.Nodes.endings c.args.nodes.now) (g.N.Nodes.endings c.listen_all.new.nodes)) k first b {R = Bool} y (IsBroken (g.N.Nodes.faults c.args.nodes.now) (g.N.Nodes.faults c.send_some.new.nodes) (g.N.Nodes.endings c.args.nodes.now) (g.N.Nodes.endings c.send_some.new.nodes)) (IsBroken (g.N.Nodes.faults c.send_some.new.nodes) (g.N.Nodes.faults c.listen_all.new.nodes) (g.N.Nodes.endings c.send_some.new.nodes) (g.N.Nodes.endings c.listen_all.new.nodes)) (g.N.Nodes.silent c.send_some.new.nodes ≡ true) (g.N.Nodes.silent c.listen_all.new.nodes ≡ true) A B (Answering T k y c.in_ok-due.field-0.due) (WithNode U k y) s c.send_some.new.queues c.listen_all.new.queues w w new (Ok c.in_ok-is_on.is_on) (broken_until _ _ _ _ _ _ c.in_ok-is_on.ensures.counts) (broken_since _ _ _ _ _ _ c.in_ok-due.ensures.counts)
+    c.in_ok-is_on.ensures.silent
+    (λ v. c.in_ok-is_on.ensures.held who is k first v.moved.state v.far b there v.told v.moved.holds)
+    (c.in_ok-due.ensures.held who k first s far w b told h)
 
 pub returns-clause-held : goal.returns-clause-held
-returns-clause-held g c who is k first s far before rest b there told h q left =
-    let a = c.args.actor.now in
+returns-clause-held g c who is k first s far b there told h =
+    let y = c.args.node in
+    let A = g.A.Actor.stands c.args.actor.now in
+    let B = g.A.Actor.stands c.listen_all.new.actor in
+    let T = g.N.Nodes.tells c.send_some.new.nodes in
+    let U = g.N.Nodes.tells c.listen_all.new.nodes in
     let w = Some (g.O.Sink.written c.args.out.now) in
-    let to = first_waits first s.network before far.answers c.args.node c.args.message.now rest h.news c.number.ensures.bounds q in
-    let went : Went who (IsBroken (g.N.Nodes.faults c.args.nodes.now) (g.N.Nodes.faults c.listen.new.nodes) (g.N.Nodes.endings c.args.nodes.now) (g.N.Nodes.endings c.listen.new.nodes)) (Visiting k c.args.node) (g.A.Actor.stands a) (Answering (g.N.Nodes.tells c.send.new.self) k c.args.node) k first s c.args.queues.now w w =
-    subst (λ (x : List (List Msg)). Went who (IsBroken (g.N.Nodes.faults c.args.nodes.now) (g.N.Nodes.faults c.listen.new.nodes) (g.N.Nodes.endings c.args.nodes.now) (g.N.Nodes.endings c.listen.new.nodes)) (Visiting k c.args.node) (g.A.Actor.stands a) (Answering (g.N.Nodes.tells c.send.new.self) k c.args.node) k first s x w w) (sym left)
-    (handed_on who (IsBroken (g.N.Nodes.faults c.args.nodes.now) (g.N.Nodes.faults c.listen.new.nodes) (g.N.Nodes.endings c.args.nodes.now) (g.N.Nodes.endings c.listen.new.nodes)) k first b (g.A.Actor.stands a) (g.met.A.Actor.stands_apart a) s (g.N.Nodes.tells c.send.new.self) far c.args.node told.1 told.0.1 c.number.ensures.bounds w before c.args.message.now rest h q (c.in-Ok.ensures.sent k far told.0.0 c.args.node told.1 to)) in
-    visiting_on who (IsBroken (g.N.Nodes.faults c.args.nodes.now) (g.N.Nodes.faults c.listen.new.nodes) (g.N.Nodes.endings c.args.nodes.now) (g.N.Nodes.endings c.listen.new.nodes)) k first b {R = Bool} c.args.node (IsBroken (g.N.Nodes.faults c.args.nodes.now) (g.N.Nodes.faults c.listen.new.nodes) (g.N.Nodes.endings c.args.nodes.now) (g.N.Nodes.endings c.listen.new.nodes)) (IsBroken (g.N.Nodes.faults c.send.new.self) (g.N.Nodes.faults c.listen.new.nodes) (g.N.Nodes.endings c.send.new.self) (g.N.Nodes.endings c.listen.new.nodes))
-    (g.N.Nodes.silent c.listen.new.nodes ≡ true) (g.N.Nodes.silent c.listen.new.nodes ≡ true) (g.A.Actor.stands a) (g.A.Actor.stands c.listen.new.actor) (Answering (g.N.Nodes.tells c.send.new.self) k c.args.node) (WithNode (g.N.Nodes.tells c.listen.new.nodes) k c.args.node) s c.args.queues.now c.listen.new.queues w w (Some (g.O.Sink.written c.listen.new.out)) c.listen.result
-    (λ l. l) (broken_since _ _ _ _ _ _ (sent_later _ _ _ _ c.send.result c.send.ensures.counts c.send.ensures.endings)) (λ quiet. quiet)
-    (λ v. c.listen.ensures.held who is k first v.moved.state v.far b there v.told v.moved.holds) (inr went)
-
-pub returns-in-Err-clause-since : goal.returns-in-Err-clause-since
-returns-in-Err-clause-since g c = g.met.A.Actor.since_here c.args.actor.now
-
-pub returns-then-not-is_answered-clause-since : goal.returns-then-not-is_answered-clause-since
-returns-then-not-is_answered-clause-since g c = g.met.A.Actor.since_here c.args.actor.now
-
-pub returns-in-Err-clause-ended : goal.returns-in-Err-clause-ended
-returns-in-Err-clause-ended g c = λ none. none_off _ _ (c.send.ensures.off ∙ none)
-
-pub returns-then-not-is_answered-clause-ended : goal.returns-then-not-is_answered-clause-ended
-returns-then-not-is_answered-clause-ended g c = λ none. none_off _ _ (c.send.ensures.off ∙ none)
-
-pub returns-clause-ended : goal.returns-clause-ended
-returns-clause-ended g c = λ none. c.listen.ensures.ended (c.send.ensures.off ∙ none)
+    let new = Some (g.O.Sink.written c.listen_all.new.out) in
+    visiting_on who (IsBroken (g.N.Nodes.faults c.args.nodes.now) (g.N.Nodes.faults c.listen_all.new.nodes) (g.N.Nodes.endings c.args.nodes.now) (g.N.Nodes.endings c.listen_all.new.nodes)) k first b {R = Bool} y (IsBroken (g.N.Nodes.faults c.args.nodes.now) (g.N.Nodes.faults c.send_some.new.nodes) (g.N.Nodes.endings c.args.nodes.now) (g.N.Nodes.endings c.send_some.new.nodes)) (IsBroken (g.N.Nodes.faults c.send_some.new.nodes) (g.N.Nodes.faults c.listen_all.new.nodes) (g.N.Nodes.endings c.send_some.new.nodes) (g.N.Nodes.endings c.listen_all.new.nodes)) (g.N.Nodes.silent c.send_some.new.nodes ≡ true) (g.N.Nodes.silent c.listen_all.new.nodes ≡ true) A B (Answering T k y c.in_ok-due.field-0.due) (WithNode U k y) s c.send_some.new.queues c.listen_all.new.queues w w new (Ok c.in_ok-is_on.is_on) (broken_until _ _ _ _ _ _ c.in_ok-is_on.ensures.counts) (broken_since _ _ _ _ _ _ c.in_ok-due.ensures.counts)
+    c.in_ok-is_on.ensures.silent
+    (λ v. c.in_ok-is_on.ensures.held who is k first v.moved.state v.far b there v.told v.moved.holds)
+    (c.in_ok-due.ensures.held who k first s far w b told h)

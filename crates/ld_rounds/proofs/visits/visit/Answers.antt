@@ -1,12 +1,12 @@
 use Rattle.std.proofs.Common.{◌≡◌, refl, ap, arith, sym, subst, inl, inr, ⊎_elim, ◌∙◌, List, Ok, Err, Bool, true, false, Some}
 use Rattle.std.proofs.lemmas.Result.{err_from_is_err_and}
 use Rattle.ld_msg.specs.declared.msg.Msg.{Msg}
-use Rattle.ld_rounds.specs.Queued.{queue_of, behind}
+use Rattle.ld_rounds.specs.Queued.{queue_of}
 use Rattle.ld_rounds.specs.Drives.{IsBroken, Went, AllTaken, WithNode}
 use Rattle.ld_rounds.proofs.Endings.{later_here, later_on, ending_since, none_off, goes_unoff, ends_as}
 use Rattle.ld_rounds.specs.Rounds.{Visiting, VisitEnd}
 use Rattle.ld_rounds.proofs.Going.{halted, went_here, went_as, goes_as, visiting_on, went_visit}
-use Rattle.ld_rounds.proofs.Visiting.{drives_on, broken_since, broken_until, later_since, fronted, not_taken, taken_none, unwaited, emptied, dialed, missed, dropped}
+use Rattle.ld_rounds.proofs.Visiting.{drives_on, broken_since, broken_until, later_since, unwaited, emptied, dialed, missed, dropped}
 use Rattle.ld_rounds.proofs.visits.visit.Goals as goal
 
 pub returns-then-not-has-clause-held : goal.returns-then-not-has-clause-held
@@ -37,20 +37,34 @@ frames-init g c = (
   c.in-Ok.ensures.off,
 )
 
-pub returns-in_default-clause-held : goal.returns-in_default-clause-held
-returns-in_default-clause-held g c who is k first s far b there told h =
-    let a = c.frames.actor in
-    let old = Some (g.O.Sink.written c.args.out.now) in
-    let new = Some (g.O.Sink.written c.frames.out) in
+pub returns-then-not-waits-clause-held : goal.returns-then-not-waits-clause-held
+returns-then-not-waits-clause-held g c who is k first s far b there told h =
     let T = g.N.Nodes.tells c.frames.nodes in
+    let U = g.N.Nodes.tells c.exchange.new.nodes in
+    let y = c.args.node in
+    let B = g.A.Actor.stands c.exchange.new.actor in
+    let old = Some (g.O.Sink.written c.args.out.now) in
+    let new = Some (g.O.Sink.written c.exchange.new.out) in
     ⊎_elim (λ quiet. inl quiet)
-    (λ w. let broken = IsBroken (g.N.Nodes.faults c.args.nodes.now) (g.N.Nodes.faults c.frames.nodes) (g.N.Nodes.endings c.args.nodes.now) (g.N.Nodes.endings c.frames.nodes) in
-    inr (went_visit who broken k first b c.args.node (g.A.Actor.stands a) (T k) s c.next.new.self old new
-    (taken_none c.frames.queues c.next.new.self c.args.node (sym c.in_default.is ∙ c.next.ensures.first) c.next.ensures.left)
-    (subst (λ (x : List (List Msg)). Went who broken (Visiting k c.args.node) (g.A.Actor.stands a) (AllTaken (T k)) k first s x old new)
-    (sym (not_taken c.frames.queues c.next.new.self c.args.node (sym c.in_default.is ∙ c.next.ensures.first) c.next.ensures.left))
-    (went_as who (IsBroken (g.N.Nodes.faults c.args.nodes.now) (g.N.Nodes.faults c.frames.nodes) (g.N.Nodes.endings c.args.nodes.now) (g.N.Nodes.endings c.frames.nodes)) k first b (Visiting k c.args.node) (IsBroken (g.N.Nodes.faults c.args.nodes.now) (g.N.Nodes.faults c.frames.nodes) (g.N.Nodes.endings c.args.nodes.now) (g.N.Nodes.endings c.frames.nodes)) (g.A.Actor.stands a) (WithNode T k c.args.node) (AllTaken (T k)) s c.frames.queues old new (λ l. l) (λ f t. t.0) w))))
-    (c.frames.invariant.0 who is k first s far b there told h)
+    (λ v. inr (went_visit who (IsBroken (g.N.Nodes.faults c.args.nodes.now) (g.N.Nodes.faults c.exchange.new.nodes) (g.N.Nodes.endings c.args.nodes.now) (g.N.Nodes.endings c.exchange.new.nodes)) k first b y B (U k) s c.exchange.new.queues old new (unwaited (queue_of c.exchange.new.queues y) c.has-waits.result c.has-waits.ensures.waits c.if-not-waits.true)
+    (went_as who (IsBroken (g.N.Nodes.faults c.args.nodes.now) (g.N.Nodes.faults c.exchange.new.nodes) (g.N.Nodes.endings c.args.nodes.now) (g.N.Nodes.endings c.exchange.new.nodes)) k first b (Visiting k y) (IsBroken (g.N.Nodes.faults c.args.nodes.now) (g.N.Nodes.faults c.exchange.new.nodes) (g.N.Nodes.endings c.args.nodes.now) (g.N.Nodes.endings c.exchange.new.nodes)) B (WithNode U k y) (AllTaken (U k)) s c.exchange.new.queues old new (λ l. l) (λ f t. t.0) v)))
+    (visiting_on who (IsBroken (g.N.Nodes.faults c.args.nodes.now) (g.N.Nodes.faults c.exchange.new.nodes) (g.N.Nodes.endings c.args.nodes.now) (g.N.Nodes.endings c.exchange.new.nodes)) k first b {R = Bool} y (IsBroken (g.N.Nodes.faults c.args.nodes.now) (g.N.Nodes.faults c.frames.nodes) (g.N.Nodes.endings c.args.nodes.now) (g.N.Nodes.endings c.frames.nodes)) (IsBroken (g.N.Nodes.faults c.frames.nodes) (g.N.Nodes.faults c.exchange.new.nodes) (g.N.Nodes.endings c.frames.nodes) (g.N.Nodes.endings c.exchange.new.nodes)) (g.N.Nodes.silent c.frames.nodes ≡ true) (g.N.Nodes.silent c.exchange.new.nodes ≡ true) (g.A.Actor.stands c.frames.actor) B (WithNode T k y) (WithNode U k y) s
+    c.frames.queues c.exchange.new.queues old (Some (g.O.Sink.written c.frames.out)) new (Ok true) (broken_until _ _ _ _ _ _ c.in_ok-exchange.ensures.counts) (broken_since _ _ _ _ _ _ c.frames.invariant.3)
+    c.in_ok-exchange.ensures.silent
+    (λ w. c.in_ok-exchange.ensures.held who (drives_on who (g.A.Actor.own c.args.actor.now) (g.A.Actor.own c.frames.actor) is c.frames.invariant.4) k first w.moved.state w.far b there w.told w.moved.holds)
+    (c.frames.invariant.0 who is k first s far b there told h))
+
+pub returns-then-not-waits-clause-later : goal.returns-then-not-waits-clause-later
+returns-then-not-waits-clause-later g c = later_on _ _ _ _ _ _ c.frames.invariant.2 c.in_ok-exchange.ensures.later
+
+pub returns-then-not-waits-clause-emptied : goal.returns-then-not-waits-clause-emptied
+returns-then-not-waits-clause-emptied g c = unwaited (queue_of c.exchange.new.queues c.args.node) c.has-waits.result c.has-waits.ensures.waits c.if-not-waits.true
+
+pub returns-then-not-waits-clause-since : goal.returns-then-not-waits-clause-since
+returns-then-not-waits-clause-since g c = g.met.A.Actor.since_on c.args.actor.now c.frames.actor c.exchange.new.actor c.frames.invariant.5 c.in_ok-exchange.ensures.since
+
+pub returns-then-not-waits-clause-ended : goal.returns-then-not-waits-clause-ended
+returns-then-not-waits-clause-ended g c = λ none. none_off _ _ (goes_unoff _ c.in_ok-exchange.field-0 (c.in_ok-exchange.ensures.ended c.frames.invariant.6))
 
 pub returns-in_err-exchange-clause-held : goal.returns-in_err-exchange-clause-held
 returns-in_err-exchange-clause-held g c who is k first s far b there told h =
@@ -58,12 +72,11 @@ returns-in_err-exchange-clause-held g c who is k first s far b there told h =
     let T = g.N.Nodes.tells c.frames.nodes in
     let U = g.N.Nodes.tells c.exchange.new.nodes in
     let y = c.args.node in
-    let front = fronted (queue_of c.frames.queues y) c.in-Some.message (sym c.in-Some.is ∙ c.next.ensures.first) in
     rw (p.1, p.2) (visiting_on who (IsBroken (g.N.Nodes.faults c.args.nodes.now) (g.N.Nodes.faults c.exchange.new.nodes) (g.N.Nodes.endings c.args.nodes.now) (g.N.Nodes.endings c.exchange.new.nodes)) k first b {R = Bool} c.args.node (IsBroken (g.N.Nodes.faults c.args.nodes.now) (g.N.Nodes.faults c.frames.nodes) (g.N.Nodes.endings c.args.nodes.now) (g.N.Nodes.endings c.frames.nodes)) (IsBroken (g.N.Nodes.faults c.frames.nodes) (g.N.Nodes.faults c.exchange.new.nodes) (g.N.Nodes.endings c.frames.nodes) (g.N.Nodes.endings c.exchange.new.nodes)) (g.N.Nodes.silent c.frames.nodes ≡ true) (g.N.Nodes.silent c.exchange.new.nodes ≡ true) (g.A.Actor.stands c.frames.actor) (g.A.Actor.stands c.exchange.new.actor) (WithNode T k y) (AllTaken (U k)) s
     c.frames.queues c.exchange.new.queues (Some (g.O.Sink.written c.args.out.now)) (Some (g.O.Sink.written c.frames.out)) (Some (g.O.Sink.written c.exchange.new.out)) (Err c.in_err-exchange.field-0.0) (broken_until _ _ _ _ _ _ c.in_err-exchange.ensures.counts) (broken_since _ _ _ _ _ _ c.frames.invariant.3)
     c.in_err-exchange.ensures.silent
     (λ w. ⊎_elim (λ quiet. inl quiet) (λ v. inr (goes_as who (IsBroken (g.N.Nodes.faults c.frames.nodes) (g.N.Nodes.faults c.exchange.new.nodes) (g.N.Nodes.endings c.frames.nodes) (g.N.Nodes.endings c.exchange.new.nodes)) k first b {R = Bool} (Visiting k c.args.node) (VisitEnd k c.args.node) (IsBroken (g.N.Nodes.faults c.frames.nodes) (g.N.Nodes.faults c.exchange.new.nodes) (g.N.Nodes.endings c.frames.nodes) (g.N.Nodes.endings c.exchange.new.nodes)) (g.A.Actor.stands c.exchange.new.actor) (WithNode U k y) (AllTaken (U k)) w.moved.state c.exchange.new.queues (Some (g.O.Sink.written c.frames.out)) (Some (g.O.Sink.written c.exchange.new.out)) (Err c.in_err-exchange.field-0.0) (λ l. l) (λ f t. t.0) v))
-    (c.in_err-exchange.ensures.held who (drives_on who (g.A.Actor.own c.args.actor.now) (g.A.Actor.own c.frames.actor) is c.frames.invariant.4) k first w.moved.state w.far c.frames.queues (behind (queue_of c.frames.queues y)) b there w.told w.moved.holds front c.next.ensures.left))
+    (c.in_err-exchange.ensures.held who (drives_on who (g.A.Actor.own c.args.actor.now) (g.A.Actor.own c.frames.actor) is c.frames.invariant.4) k first w.moved.state w.far b there w.told w.moved.holds))
     (c.frames.invariant.0 who is k first s far b there told h))
 
 pub returns-in_err-exchange-clause-cause : goal.returns-in_err-exchange-clause-cause
@@ -82,11 +95,10 @@ returns-then-not-branch-clause-held g c who is k first s far b there told h =
     let B = g.A.Actor.stands c.exchange.new.actor in
     let old = Some (g.O.Sink.written c.args.out.now) in
     let new = Some (g.O.Sink.written c.exchange.new.out) in
-    let front = fronted (queue_of c.frames.queues y) c.in-Some.message (sym c.in-Some.is ∙ c.next.ensures.first) in
     let went = visiting_on who (IsBroken (g.N.Nodes.faults c.args.nodes.now) (g.N.Nodes.faults c.exchange.new.nodes) (g.N.Nodes.endings c.args.nodes.now) (g.N.Nodes.endings c.exchange.new.nodes)) k first b {R = Bool} c.args.node (IsBroken (g.N.Nodes.faults c.args.nodes.now) (g.N.Nodes.faults c.frames.nodes) (g.N.Nodes.endings c.args.nodes.now) (g.N.Nodes.endings c.frames.nodes)) (IsBroken (g.N.Nodes.faults c.frames.nodes) (g.N.Nodes.faults c.exchange.new.nodes) (g.N.Nodes.endings c.frames.nodes) (g.N.Nodes.endings c.exchange.new.nodes)) (g.N.Nodes.silent c.frames.nodes ≡ true) (g.N.Nodes.silent c.exchange.new.nodes ≡ true) (g.A.Actor.stands c.frames.actor) B (WithNode T k y) (WithNode U k y) s
     c.frames.queues c.exchange.new.queues old (Some (g.O.Sink.written c.frames.out)) new (Ok false) (broken_until _ _ _ _ _ _ c.in_ok-exchange.ensures.counts) (broken_since _ _ _ _ _ _ c.frames.invariant.3)
     c.in_ok-exchange.ensures.silent
-    (λ w. c.in_ok-exchange.ensures.held who (drives_on who (g.A.Actor.own c.args.actor.now) (g.A.Actor.own c.frames.actor) is c.frames.invariant.4) k first w.moved.state w.far c.frames.queues (behind (queue_of c.frames.queues y)) b there w.told w.moved.holds front c.next.ensures.left)
+    (λ w. c.in_ok-exchange.ensures.held who (drives_on who (g.A.Actor.own c.args.actor.now) (g.A.Actor.own c.frames.actor) is c.frames.invariant.4) k first w.moved.state w.far b there w.told w.moved.holds)
     (c.frames.invariant.0 who is k first s far b there told h) in
     let broken = IsBroken (g.N.Nodes.faults c.args.nodes.now) (g.N.Nodes.faults c.exchange.new.nodes) (g.N.Nodes.endings c.args.nodes.now) (g.N.Nodes.endings c.exchange.new.nodes) in
     ⊎_elim (λ quiet. inl quiet) (λ v. inr (went_visit who broken k first b y B (U k) s c.drop_all-then-not-branch.new.self old new (ap (λ (x : List (List Msg)). queue_of x y) c.drop_all-then-not-branch.ensures.dropped ∙ emptied c.exchange.new.queues y)
@@ -101,12 +113,11 @@ pub frames-preserved : goal.frames-preserved
 frames-preserved g c =
     let T = g.N.Nodes.tells c.frames.nodes in
     let U = g.N.Nodes.tells c.exchange.new.nodes in
-    let y = c.args.node in
-    let front = fronted (queue_of c.frames.queues y) c.in-Some.message (sym c.in-Some.is ∙ c.next.ensures.first) in (
+    let y = c.args.node in (
       λ who is k first s far b there told h. visiting_on who (IsBroken (g.N.Nodes.faults c.args.nodes.now) (g.N.Nodes.faults c.exchange.new.nodes) (g.N.Nodes.endings c.args.nodes.now) (g.N.Nodes.endings c.exchange.new.nodes)) k first b {R = Bool} c.args.node (IsBroken (g.N.Nodes.faults c.args.nodes.now) (g.N.Nodes.faults c.frames.nodes) (g.N.Nodes.endings c.args.nodes.now) (g.N.Nodes.endings c.frames.nodes)) (IsBroken (g.N.Nodes.faults c.frames.nodes) (g.N.Nodes.faults c.exchange.new.nodes) (g.N.Nodes.endings c.frames.nodes) (g.N.Nodes.endings c.exchange.new.nodes)) (g.N.Nodes.silent c.frames.nodes ≡ true) (g.N.Nodes.silent c.exchange.new.nodes ≡ true) (g.A.Actor.stands c.frames.actor) (g.A.Actor.stands c.exchange.new.actor) (WithNode T k y) (WithNode U k y) s
           c.frames.queues c.exchange.new.queues (Some (g.O.Sink.written c.args.out.now)) (Some (g.O.Sink.written c.frames.out)) (Some (g.O.Sink.written c.exchange.new.out)) (Ok true) (broken_until _ _ _ _ _ _ c.in_ok-exchange.ensures.counts) (broken_since _ _ _ _ _ _ c.frames.invariant.3)
           c.in_ok-exchange.ensures.silent
-          (λ w. c.in_ok-exchange.ensures.held who (drives_on who (g.A.Actor.own c.args.actor.now) (g.A.Actor.own c.frames.actor) is c.frames.invariant.4) k first w.moved.state w.far c.frames.queues (behind (queue_of c.frames.queues y)) b there w.told w.moved.holds front c.next.ensures.left)
+          (λ w. c.in_ok-exchange.ensures.held who (drives_on who (g.A.Actor.own c.args.actor.now) (g.A.Actor.own c.frames.actor) is c.frames.invariant.4) k first w.moved.state w.far b there w.told w.moved.holds)
           (c.frames.invariant.0 who is k first s far b there told h),
       λ quiet. c.in_ok-exchange.ensures.silent (c.frames.invariant.1 quiet),
       later_on _ _ _ _ _ _ c.frames.invariant.2 c.in_ok-exchange.ensures.later,
@@ -135,9 +146,6 @@ returns-in_err-exchange-clause-since g c = g.met.A.Actor.since_on c.args.actor.n
 
 pub returns-in-Err-clause-ended : goal.returns-in-Err-clause-ended
 returns-in-Err-clause-ended g c = λ none. none_off _ _ c.in-Err.ensures.off
-
-pub returns-in_default-clause-ended : goal.returns-in_default-clause-ended
-returns-in_default-clause-ended g c = λ none. none_off _ _ c.frames.invariant.6
 
 pub returns-in_err-exchange-clause-ended : goal.returns-in_err-exchange-clause-ended
 returns-in_err-exchange-clause-ended g c =

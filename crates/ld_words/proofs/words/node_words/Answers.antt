@@ -53,6 +53,7 @@ returns c =
         listen = c.in_ok-listen.ensures;
         turns = c.in_ok-turns.ensures;
         format = c.flag.ensures;
+        quiet = c.flag-2.ensures;
       };
       bounds = c.in_ok-config.ensures.bounds;
     }

@@ -1,0 +1,28 @@
+use Rattle.std.proofs.Common.{◌≡◌, ◌⊎◌, ℕ, true, Some, None}
+use Rattle.std.specs.Prelude.{IfSome}
+use Rattle.ld_config.specs.declared.config.Config.{Config}
+use Rattle.ld_config.specs.Bounds.{IsInBounds}
+use Rattle.ld_machine.specs.Config.{has_node}
+use Rattle.ld_machine.specs.State.{State}
+use Rattle.ld_dial.specs.Far.{Far}
+use Rattle.ld_rounds.specs.Acts.{IsDriverOf}
+use Rattle.ld_rounds.specs.Endings.{IsLater}
+use Rattle.ld_rounds.specs.Drives.{Driver, IsBroken, AreLater, Holds, Went, Answering}
+use Rattle.ld_rounds.specs.Rounds.{Visiting}
+use Rattle.ld_rounds.proofs.Listening.{HasEnded}
+use Rattle.ld_rounds.proofs.visits.listen_all.Given as goal
+
+abbrev pub invariant-answers : goal.invariant-answers
+invariant-answers g l =
+    ((who : Driver) → IsDriverOf who (g.A.Actor.own l.fn.actor) → (c : Config) (first : ℕ) (s : State) (far : Far) → IsInBounds c → has_node c l.node ≡ true → Answering (g.N.Nodes.tells l.fn.nodes) c l.node l.due far → Holds (g.A.Actor.stands l.fn.actor) c first s far l.fn.queues
+    → (g.N.Nodes.silent l.nodes ≡ true) ⊎ Went who (IsBroken (g.N.Nodes.faults l.fn.nodes) (g.N.Nodes.faults l.nodes) (g.N.Nodes.endings l.fn.nodes) (g.N.Nodes.endings l.nodes)) (Visiting c l.node) (g.A.Actor.stands l.actor) (Answering (g.N.Nodes.tells l.nodes) c l.node l.left) c first s l.queues (Some (g.O.Sink.written l.fn.out)) (Some (g.O.Sink.written l.out)))
+    × (g.N.Nodes.silent l.fn.nodes ≡ true → g.N.Nodes.silent l.nodes ≡ true)
+    × IsLater (g.O.Sink.faults l.fn.out) (g.O.Sink.faults l.out) (Some (g.O.Sink.written l.fn.out)) (Some (g.O.Sink.written l.out))
+    × AreLater (g.N.Nodes.faults l.fn.nodes) (g.N.Nodes.faults l.nodes) (g.N.Nodes.endings l.fn.nodes) (g.N.Nodes.endings l.nodes)
+    × (g.A.Actor.own l.actor ≡ g.A.Actor.own l.fn.actor)
+    × g.A.Actor.since l.fn.actor l.actor
+    × (g.N.Nodes.off l.fn.nodes ≡ None → g.N.Nodes.off l.nodes ≡ None)
+    × IfSome l.end (HasEnded (Some (g.O.Sink.written l.fn.out)) (Some (g.O.Sink.written l.out)))
+
+abbrev pub decreases-answers : goal.decreases-answers
+decreases-answers g l = l.left
