@@ -1,0 +1,10 @@
+pub mod Causes
+pub mod Going
+pub mod Handing
+pub mod Mended
+pub mod Nodes
+pub mod Own
+pub mod Logs
+pub mod Takings
+pub mod Ticks
+pub mod Writing
