@@ -16,13 +16,14 @@ def built():
 class Cluster:
     """Three nodes, each a process with a store of its own in the folder."""
 
-    def __init__(self, program, folder, copies=2):
+    def __init__(self, program, folder, copies=2, peers=None):
         self.config = '{"nodes":[1,2,3],"logs":[{"id":1,"set":[1,2,3],"r":%d}]}' % copies
         self.program, self.folder, self.port = program, folder, frames.free_ports(4)
         self.nodes = []
         for node in (1, 2, 3):
             words = ["--id", str(node), "--config", self.config, "--store", f"{folder}/store{node}", "--register", f"{folder}/register"]
             words += ["--port", str(self.port + node), "--turns", "1000000000", "--format"]
+            words += ["--peers", str(peers), "--quiet"] if peers else []
             self.nodes.append(subprocess.Popen([program, "node", *words]))
             frames.Peer(self.port + node).close()
 
