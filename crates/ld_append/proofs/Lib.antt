@@ -4,6 +4,7 @@ mod Crowding
 mod Ending
 mod Filling
 mod Keeping
+pub mod Onward
 mod Rounding
 mod Saying
 mod Serving

@@ -10,6 +10,7 @@ use Rattle.ld_transcript.specs.Text.{text}
 use Rattle.ld_msg.specs.Register.{Register}
 use Rattle.ld_machine.specs.State.{State}
 use Rattle.ld_dial.specs.Far.{Far}
+use Rattle.ld_rounds.specs.Drives.{CallCounts, HasBroken}
 use Rattle.ld_rounds.specs.declared.ended.Refusal.{Refusal}
 use Rattle.ld_rounds.specs.declared.ended.Ended.{Ended}
 use Rattle.ld_rounds.specs.declared.ended.Ended.TheVariants as ends
@@ -117,9 +118,9 @@ module _ (crowded : Type 0) (damaged : ℕ → Type 0) (i : Option Input) (p q k
 
 -- ---- what it has come to ----
 
-module _ (name : List ℕ) (l : ℕ) (broken : Type 0) (coming : Option Input) (most : ℕ) (tells : Config → Far → Type 0) (U : Register → Type 0) (c : Config) (b : IsInBounds c) (s : State) (old new : Option (List ℕ)) where
+module _ (name : List ℕ) (l : ℕ) (counts : CallCounts) (coming : Option Input) (most : ℕ) (tells : Config → Far → Type 0) (U : Register → Type 0) (c : Config) (b : IsInBounds c) (s : State) (old new : Option (List ℕ)) where
   abbrev at : Ended → State → List Event → Type 0
-  at e = EndAt name l c s.network.count coming most e
+  at e = EndAt name l c s.network.count counts coming most e
 
   -- by another end, at which the payloads are told of alike
   end_as : (f e : Ended) → ((t : State) (es : List Event) → FeedsUntil c coming f t es → FeedsUntil c coming e t es) → (t : State) (es : List Event) → at f t es → at e t es
@@ -127,7 +128,7 @@ module _ (name : List ℕ) (l : ℕ) (broken : Type 0) (coming : Option Input) (
   end_as f e g t es (inr h) = inr (record {
     rounds = h.rounds;
     below = h.below;
-    goes = splits_as c (IsOne (events.Activate name l)) (AppendsUntil name c s.network.count (members c.nodes) coming f h.rounds) (IsOne (events.Activate name l)) (AppendsUntil name c s.network.count (members c.nodes) coming e h.rounds) t es (λ u fs x. x) (λ u fs x. (x.0, g u fs x.1)) h.goes;
+    goes = splits_as c (IsOne (events.Activate name l)) (AppendsUntil name c s.network.count (members c.nodes) counts coming f h.rounds) (IsOne (events.Activate name l)) (AppendsUntil name c s.network.count (members c.nodes) counts coming e h.rounds) t es (λ u fs x. x) (λ u fs x. (x.0, g u fs x.1)) h.goes;
   })
 
   fed_refused : (i : Option Input) (f r : Refusal) (t : State) (es : List Event) → FeedsUntil c i (ends.Register f) t es → FeedsUntil c i (ends.Register r) t es
@@ -138,30 +139,30 @@ module _ (name : List ℕ) (l : ℕ) (broken : Type 0) (coming : Option Input) (
   fed_cut None f t es h = tt
   fed_cut (Some i) f t es h = h
 
-  refused_as : (f r : Refusal) → IsAppended name l broken coming most tells U c s old new (ends.Register f) → IsAppended name l broken coming most tells U c s old new (ends.Register r)
+  refused_as : (f r : Refusal) → IsAppended name l counts coming most tells U c s old new (ends.Register f) → IsAppended name l counts coming most tells U c s old new (ends.Register r)
   refused_as f r g = record {
     state = g.state;
     far = g.far;
     lines = g.lines;
     told = g.told;
     nodes = g.nodes;
-    goes = goes_if (sequencing name) broken c broken (at (ends.Register f)) (at (ends.Register r)) s g.state g.lines (λ x. x) (λ es e x. end_as (ends.Register f) (ends.Register r) (fed_refused coming f r) s es x) g.goes;
+    goes = goes_if (sequencing name) (HasBroken counts) c (HasBroken counts) (at (ends.Register f)) (at (ends.Register r)) s g.state g.lines (λ x. x) (λ es e x. end_as (ends.Register f) (ends.Register r) (fed_refused coming f r) s es x) g.goes;
     written = g.written;
     such = g.such;
   }
 
-  refused_cut : (f : Refusal) → IsAppended name l broken coming most tells U c s old new (ends.Register f) → IsAppended name l broken coming most tells U c s old new ends.NoMemory
+  refused_cut : (f : Refusal) → IsAppended name l counts coming most tells U c s old new (ends.Register f) → IsAppended name l counts coming most tells U c s old new ends.NoMemory
   refused_cut f g = record {
     state = g.state;
     lines = g.lines;
-    goes = goes_if (sequencing name) broken c broken (at (ends.Register f)) (at ends.NoMemory) s g.state g.lines (λ x. x) (λ es e x. end_as (ends.Register f) ends.NoMemory (fed_cut coming f) s es x) g.goes;
+    goes = goes_if (sequencing name) (HasBroken counts) c (HasBroken counts) (at (ends.Register f)) (at ends.NoMemory) s g.state g.lines (λ x. x) (λ es e x. end_as (ends.Register f) ends.NoMemory (fed_cut coming f) s es x) g.goes;
     written = all_written old new (text g.lines) g.written;
   }
 
-  round_drove : (kept : Option Ended) (r : Result Bool Ended) → DroveAppend name l broken coming most tells U c s old new r → DroveAppend name l broken coming most tells U c s old new (round_end kept r)
-  round_drove kept r g = by_round (λ x. DroveAppend name l broken coming most tells U c s old new x) kept r (λ o. g)
-      (λ f e. let h : DroveAppend name l broken coming most tells U c s old new (Err (ends.Register f)) = subst (λ (x : Result Bool Ended). DroveAppend name l broken coming most tells U c s old new x) e g in by_kept (IsAppended name l broken coming most tells U c s old new) kept (refused_cut f h) (λ x y. refused_as f x h))
+  round_drove : (kept : Option Ended) (r : Result Bool Ended) → DroveAppend name l counts coming most tells U c s old new r → DroveAppend name l counts coming most tells U c s old new (round_end kept r)
+  round_drove kept r g = by_round (λ x. DroveAppend name l counts coming most tells U c s old new x) kept r (λ o. g)
+      (λ f e. let h : DroveAppend name l counts coming most tells U c s old new (Err (ends.Register f)) = subst (λ (x : Result Bool Ended). DroveAppend name l counts coming most tells U c s old new x) e g in by_kept (IsAppended name l counts coming most tells U c s old new) kept (refused_cut f h) (λ x y. refused_as f x h))
 
-  pub round_loud : (Y : Type 0) (kept : Option Ended) (r : Result Bool Ended) → Y ⊎ DroveAppend name l broken coming most tells U c s old new r → Y ⊎ DroveAppend name l broken coming most tells U c s old new (round_end kept r)
+  pub round_loud : (Y : Type 0) (kept : Option Ended) (r : Result Bool Ended) → Y ⊎ DroveAppend name l counts coming most tells U c s old new r → Y ⊎ DroveAppend name l counts coming most tells U c s old new (round_end kept r)
   round_loud Y kept r (inl y) = inl y
   round_loud Y kept r (inr g) = inr (round_drove kept r g)

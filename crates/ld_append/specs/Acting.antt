@@ -1,5 +1,5 @@
 -- A sequencer that is driven, with its register.
-use Rattle.std.specs.Prelude.{ℕ, ◌≡◌, ◌≤◌, ◌⊎◌, List, [], ◌∷◌, Option, None, Some, Bool, true, false, ◌==◌, ◌&&◌}
+use Rattle.std.specs.Prelude.{ℕ, ◌≡◌, ◌≤◌, ◌⊎◌, List, Option, None, Some, Bool, true, false, ◌==◌, ◌&&◌}
 use Rattle.std.proofs.Common.{refl, sym, ap, inl, inr, ⊎_elim, subst, ◌∙◌, arith}
 use Rattle.ld_io.specs.Causes.{Rose}
 use Rattle.ld_config.specs.declared.config.Config.{Config}
@@ -13,30 +13,29 @@ use Rattle.ld_ids.specs.declared.set.Spec.{Spec}
 use Rattle.ld_register.specs.Calls.{is_full, activation_length, close_length}
 use Rattle.ld_sequencer.specs.Whole.{Whole, is_settled}
 use Rattle.ld_machine.specs.Config.{first_spec, has_log}
-use Rattle.ld_machine.specs.State.{State}
+use Rattle.ld_machine.specs.State.{State, sequencer_of}
 use Rattle.ld_machine.specs.Step.{spec_set}
-use Rattle.ld_clients.specs.declared.client.Client.{Client}
-use Rattle.ld_clients.specs.declared.client.Client.TheVariants.{Live}
-use Rattle.ld_clients.specs.Serving.{IsWhole}
-use Rattle.ld_clients.specs.Acting.{AreSequencers}
+use Rattle.ld_clients.specs.Serving.{IsWhole, Knows}
 use Rattle.ld_rounds.specs.declared.ended.Refusal.{Refusal}
 use Rattle.ld_rounds.specs.declared.ended.Ended.{Ended}
 use Rattle.ld_rounds.specs.declared.ended.Ended.TheVariants as ends
 use Rattle.ld_rounds.specs.Refusals.{HeldNone, IsRefusal, refusal_as}
 
--- the one sequencer, under its name, once it is active
-abbrev pub clients : List ℕ → Option Whole → List (List ℕ × Client)
-clients name None = []
-clients name (Some w) = (name, Live w) ∷ []
+-- among these sequencers it is the one of the name, and the one of its log and epoch, and it has what the configuration says of its nodes and its log
+pub record IsServing (name : List ℕ) (w : Whole) (c : Config) (qs : List (List ℕ × Sequencer)) : Type 0 where
+  pub there : find_named name qs ≡ Some w.sequencer
+  pub found : sequencer_of w.sequencer.log w.sequencer.epoch qs ≡ Some (name, w.sequencer)
+  pub knows : Knows c w
+  pub whole : IsWhole w
 
-abbrev pub MayBeWhole : Option Whole → Type 0
-MayBeWhole None = Unit {0}
-MayBeWhole (Some w) = IsWhole w
+-- the name is free until it is active
+abbrev pub MayServe : List ℕ → Option Whole → Config → List (List ℕ × Sequencer) → Type 0
+MayServe name None c qs = find_named name qs ≡ None
+MayServe name (Some w) c qs = IsServing name w c qs
 
--- a state has just this sequencer, and a register that is told
+-- a state has this sequencer, whatever others it has, and a register that is told
 pub record Serves (name : List ℕ) (o : Option Whole) (tells : Register → Type 0) (c : Config) (s : State) : Type 0 where
-  pub sequencers : AreSequencers c s (clients name o)
-  pub whole : MayBeWhole o
+  pub sequencer : MayServe name o c s.sequencers
   pub register : tells s.register
 
 -- a message is for the sequencer, by the epoch and the log

@@ -370,7 +370,7 @@ impl<G: Register> Actor for Acting<G> {
 
     ghost stands = { λ a c s. Serves a.name a.sequencer (G.tells a.register) c s };
 
-    ghost stands_apart = { λ a c s nodes network h. record { sequencers = record { sequencers = h.sequencers.sequencers; logs = h.sequencers.logs }; whole = h.whole; register = h.register } };
+    ghost stands_apart = { λ a c s nodes network h. record { sequencer = h.sequencer; register = h.register } };
 
     ghost own = { λ a. record { name = a.name; log = a.log; takes = takes a.name; ticks = None } };
 
@@ -420,7 +420,7 @@ impl<G: Register> Appends for Acting<G> {
 
     ghost settled = { λ a. settled_in a.sequencer };
 
-    ghost settled_there = { λ a c s name h settled. settled_so c s a.name a.sequencer (G.tells a.register) name h settled };
+    ghost settled_there = { λ a c s h settled. settled_so c s a.name a.sequencer (G.tells a.register) h settled };
 
     fn append(
         &mut self,
@@ -428,12 +428,6 @@ impl<G: Register> Appends for Acting<G> {
         name: &Name,
         request: &Request,
     ) -> Result<Appended, NoMemory> {
-        if *name != self.name {
-            return Ok(Appended {
-                heard: nothing(alloc),
-                is_full: false,
-            });
-        }
         match request {
             Request::Append(payload) => self.add(alloc, payload),
             Request::Trim(point) => self.trim(alloc, *point),
@@ -441,9 +435,6 @@ impl<G: Register> Appends for Acting<G> {
     }
 
     fn retry(&mut self, alloc: Global, name: &Name) -> Result<Heard, NoMemory> {
-        if *name != self.name {
-            return Ok(nothing(alloc));
-        }
         self.again(alloc)
     }
 

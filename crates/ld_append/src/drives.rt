@@ -1,15 +1,17 @@
 // A sequencer is activated, and driven over payloads and trims.
-ghost use Rattle.std.specs.Prelude.{◌≡◌, ◌⊎◌, ℕ, Option, true, false, None, IfErr, OnOk, Some};
+ghost use Rattle.std.specs.Prelude.{◌≡◌, ◌⊎◌, ℕ, List, Option, true, false, None, IfErr, OnOk, Some};
 ghost use Rattle.ld_config.specs.Bounds.{IsInBounds};
+ghost use Rattle.ld_schedule.specs.declared.event.Event.{Event};
 ghost use Rattle.ld_schedule.specs.declared.event.Event.TheVariants.{Activate};
 ghost use Rattle.ld_machine.specs.State.{State};
 ghost use Rattle.ld_wire.specs.declared.fault.WireFault.{WireFault as FrameFault};
 ghost use Rattle.ld_dial.specs.Far.{Far};
-ghost use Rattle.ld_rounds.specs.Drives.{Holds, GoesOn, IsBroken};
+ghost use Rattle.ld_rounds.specs.Drives.{Holds, GoesOn, IsBroken, counted};
 ghost use Rattle.ld_rounds.specs.Endings.{IsLater, IsOffAs, EndsOff, IsEndedOff};
 ghost use Rattle.ld_register.specs.Bounds.{IsSpec};
 ghost use Rattle.ld_append.specs.Acting.{Serves, IsSpecOf, IsUnset, MayCrowd, Leaves, IsOfLog, HasBegun, HoldsSome, LacksRoom};
 ghost use Rattle.ld_rounds.specs.Reaching.{Begins};
+ghost use Rattle.ld_rounds.specs.Onward.{reached, EndsRun};
 ghost use Rattle.ld_rounds.specs.Rounds.{IsOne, IsBegun};
 ghost use Rattle.ld_append.specs.Appends.{HasNone, sequencing, IsAppended, DroveAppend, IsStartEnding, IsDriveEnding, IsEndOfAppend, IsRefused, taken_end};
 
@@ -65,9 +67,10 @@ fn drive<G: Register, N: Nodes, P: Payloads, O: Sink>(
     input: &mut P,
     out: &mut O,
 ) -> Result<bool, Ended>
-    requires { IsSpec spec.now }
-    ensures drove { acting.old.name ≡ name.now → acting.old.sequencer ≡ None → (s : State) (far : Far) → IsInBounds config.now → IsSpecOf config.now spec.now → IsUnset config.now s spec.now → N.tells nodes.old config.now far → Begins (HasNone (G.tells acting.old.register)) config.now s far
-        → (N.silent nodes.new ≡ true) ⊎ DroveAppend name.now spec.now.log (IsBroken (N.faults nodes.old) (N.faults nodes.new) (N.endings nodes.old) (N.endings nodes.new)) (P.coming input.old) rounds (N.tells nodes.new) (G.tells acting.new.register) config.now s (Some (O.written out.old)) (Some (O.written out.new)) result }
+    requires named { acting.old.name ≡ name.now }
+    requires bounds { IsSpec spec.now }
+    ensures drove { acting.old.sequencer ≡ None → (s : State) (far : Far) → IsInBounds config.now → IsSpecOf config.now spec.now → IsUnset config.now s spec.now → N.tells nodes.old config.now far → Begins (HasNone name.now (G.tells acting.old.register)) config.now s far
+        → (N.silent nodes.new ≡ true) ⊎ DroveAppend name.now spec.now.log (counted (N.faults nodes.old) (N.faults nodes.new) (N.endings nodes.old) (N.endings nodes.new)) (P.coming input.old) rounds (N.tells nodes.new) (G.tells acting.new.register) config.now s (Some (O.written out.old)) (Some (O.written out.new)) result }
     ensures shut { acting.old.sequencer ≡ None → acting.old.is_shut ≡ false → OnOk result (acting.new.is_shut ≡ true → G.told acting.old.register → MayCrowd (G.may_hold acting.old.register) spec.now.log) }
     ensures leaves { acting.old.sequencer ≡ None → Leaves spec.now.log (G.told acting.old.register) (G.told acting.new.register) (G.may_hold acting.old.register) (G.may_hold acting.new.register) }
     ensures register { G.identity acting.new.register ≡ G.identity acting.old.register }
@@ -122,15 +125,18 @@ pub fn append<G: Register, N: Nodes, P: Payloads, O: Sink>(
 ) -> (Ended, G)
     requires { IsSpec spec.now }
     // Where the nodes and the register tell what stands there: all that was done are steps of the written machine from any state
-    // without sequencers, and with nothing else set for the log's next activation, that they represent: the activation of the
-    // log, and then round by round what is sent again, but in the first, appends and trims, and visits of the configuration's
-    // nodes. A trim is made only where the sequencer has every append acknowledged and every epoch before its own closed. The
-    // requests that the machine took are the first ones that came, in their order; they are all where it is done, and where it
-    // comes to a line with a syntax error. The lines that were written are the sequencer's lines of those steps. A message to a
-    // node is lost only where a call of the nodes failed or a node had ended, and an answer only where the sequencer doesn't take
-    // it. It never ends with `BadFrame`.
-    ensures appended { (s : State) (far : Far) → IsInBounds config.now → IsSpecOf config.now spec.now → IsUnset config.now s spec.now → N.tells nodes.old config.now far → Begins (HasNone (G.tells register)) config.now s far
-        → (N.silent nodes.new ≡ true) ⊎ IsAppended name spec.now.log (IsBroken (N.faults nodes.old) (N.faults nodes.new) (N.endings nodes.old) (N.endings nodes.new)) (P.coming input.old) rounds (N.tells nodes.new) (G.tells result.1) config.now s (Some (O.written out.old)) (Some (O.written out.new)) result.0 }
+    // with no sequencer of the name, whatever others it has, and with nothing else set for the log's next activation, that they
+    // represent: the activation of the log, and then round by round what is sent again, but in the first, appends and trims, and
+    // visits of the configuration's nodes. A trim is made only where the sequencer has every append acknowledged and every epoch
+    // before its own closed. The requests that the machine took are the first ones that came, in their order; they are all where
+    // it is done, and where it comes to a line with a syntax error. The lines that were written are the sequencer's lines of
+    // those steps. A message to a node is lost only in a visit of it in which a call of the nodes failed or a node had ended, and
+    // an answer only where the sequencer doesn't take it. It never ends with `BadFrame`.
+    ensures appended { (s : State) (far : Far) → IsInBounds config.now → IsSpecOf config.now spec.now → IsUnset config.now s spec.now → N.tells nodes.old config.now far → Begins (HasNone name (G.tells register)) config.now s far
+        → (N.silent nodes.new ≡ true) ⊎ IsAppended name spec.now.log (counted (N.faults nodes.old) (N.faults nodes.new) (N.endings nodes.old) (N.endings nodes.new)) (P.coming input.old) rounds (N.tells nodes.new) (G.tells result.1) config.now s (Some (O.written out.old)) (Some (O.written out.new)) result.0 }
+    // Where a run of the written machine leads to such a state, that run goes on by these steps, and is safe as a whole.
+    ensures safe { (before : List Event) (far : Far) → IsInBounds config.now → IsSpecOf config.now spec.now → IsUnset config.now (reached config.now before) spec.now → N.tells nodes.old config.now far → Begins (HasNone name (G.tells register)) config.now (reached config.now before) far
+        → (N.silent nodes.new ≡ true) ⊎ EndsRun (sequencing name) (IsBroken (N.faults nodes.old) (N.faults nodes.new) (N.endings nodes.old) (N.endings nodes.new)) config.now before (Some (O.written out.old)) (Some (O.written out.new)) result.0 }
     // The register is the same one. Where it tells what it holds it does so then, and it may hold as many other logs as may be
     // only where it might before.
     ensures register { G.identity result.1 ≡ G.identity register }

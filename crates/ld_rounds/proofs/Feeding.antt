@@ -17,8 +17,8 @@ use Rattle.ld_rounds.specs.declared.request.Request.{Request}
 use Rattle.ld_rounds.specs.Endings.{IsLater, IsEnding, IsOffAs}
 use Rattle.ld_rounds.specs.Input.{Input, all_taken, GivesNext, ComesTo}
 use Rattle.ld_rounds.specs.Feeding.{upcoming, NextIs, WasOver, IsAhead, SameBehind, StaysAs, HasCome, IsOffBehind, IsInputEnding, IsAppendEnding}
-use Rattle.ld_rounds.specs.Rounds.{Feeds, FeedsUntil, Rounds, RoundsUntil}
-use Rattle.ld_rounds.specs.Drives.{Driver, Went, Stops, GoesOn}
+use Rattle.ld_rounds.specs.Rounds.{Feeds, FeedsUntil, IsAppendRound, IsAppendPart, Rounds, RoundsUntil}
+use Rattle.ld_rounds.specs.Drives.{Driver, CallCounts, Went, Stops, GoesOn}
 use Rattle.ld_rounds.proofs.Joining.{Joins, IsPartly, round_as, round_part, until_end, input_until}
 use Rattle.ld_rounds.proofs.Endings.{ending_since}
 use Rattle.ld_rounds.proofs.Going.{NoFrame, halted, went_such, went_as, goes_as, goes_further}
@@ -247,16 +247,16 @@ stays_given i j k (Ok v) a b = same_on i j k a (stays_behind j k b)
 stays_given i j k (Err e) a b = tt
 
 -- behind a round the next request is waited for
-pub waited_so : (who : Driver) (broken : Type 0) (c : Config) (first : ℕ) (b : IsInBounds c) {R : Type 0} (name : List ℕ) (dry : Type 0) (ys : List ℕ) (f : Bool) (i j k : Option Input) (p q : ℕ) (less : Type 0) (A : Config → State → Type 0) (T U : Far → Type 0) (s : State) (qs : List (List Msg)) (old new : Option (List ℕ)) (r : Result R Ended)
+pub waited_so : (who : Driver) (broken : Type 0) (c : Config) (first : ℕ) (b : IsInBounds c) {R : Type 0} (name : List ℕ) (dry : Type 0) (ys : List ℕ) (f : Bool) (here counts : CallCounts) → here ≡ counts → (i j k : Option Input) (p q : ℕ) (less : Type 0) (A : Config → State → Type 0) (T U : Far → Type 0) (s : State) (qs : List (List Msg)) (old new : Option (List ℕ)) (r : Result R Ended)
     → (less → broken) → ((far : Far) → T far → U far) → OnOk r (StaysAs j k) → IfErr r (λ e. NextIs j k (Err e)) → IfErr r (IsInputEnding j p q)
-    → Went who less (Rounds name c dry first ys f i j) A T c first s qs old new → GoesOn who broken (Rounds name c (Unit {0}) first ys f i k) (RoundsUntil name c f i) A U c first s qs old new r
-waited_so who broken c first b name dry ys f i j k p q less A T U s qs old new (Ok v) l t y n z w =
-    went_such who broken c first b less (Rounds name c dry first ys f i j) (Rounds name c (Unit {0}) first ys f i k) A T U s qs old new l t w
-    (λ es o x. (round_as c name dry (Unit {0}) first ys f s es (λ d. tt) x.0, fed_stays c i j k s es x.1 y))
-waited_so who broken c first b name dry ys f i j k p q less A T U s qs old new (Err e) l t y n z w =
-    input_stops who broken c first b (Rounds name c dry first ys f i j) (RoundsUntil name c f i) A U s qs old new e (input_unframed j p q e z)
-    (λ es x. (round_part c name dry first ys f s es x.0, until_end c i j e s es x.1 (input_until c j k e p q j (state_after c s es) n z)))
-    (went_as who broken c first b (Rounds name c dry first ys f i j) less A T U s qs old new l t w)
+    → Went who less (Rounds name c dry first ys f here i j) A T c first s qs old new → GoesOn who broken (Rounds name c (Unit {0}) first ys f counts i k) (RoundsUntil name c first ys f counts i) A U c first s qs old new r
+waited_so who broken c first b name dry ys f here counts same i j k p q less A T U s qs old new (Ok v) l t y n z w =
+    went_such who broken c first b less (Rounds name c dry first ys f here i j) (Rounds name c (Unit {0}) first ys f counts i k) A T U s qs old new l t w
+    (λ es o x. (subst (λ (m : CallCounts). IsAppendRound name c (Unit {0}) first ys f m s es) same (round_as c name dry (Unit {0}) first ys f here s es (λ d. tt) x.0), fed_stays c i j k s es x.1 y))
+waited_so who broken c first b name dry ys f here counts same i j k p q less A T U s qs old new (Err e) l t y n z w =
+    input_stops who broken c first b (Rounds name c dry first ys f here i j) (RoundsUntil name c first ys f counts i) A U s qs old new e (input_unframed j p q e z)
+    (λ es x. (subst (λ (m : CallCounts). IsAppendPart name c first ys f m s es) same (round_part c name dry first ys f here s es x.0), until_end c i j e s es x.1 (input_until c j k e p q j (state_after c s es) n z)))
+    (went_as who broken c first b (Rounds name c dry first ys f here i j) less A T U s qs old new l t w)
 
 -- where it isn't done though all but the input is, a request came
 none_there : (front : List Request) (request : Request) (rest : List Request) → front ++ request ∷ rest ≡ [] → ⊥

@@ -19,10 +19,10 @@ use Rattle.ld_rounds.specs.Queued.{queue_of, put_all}
 use Rattle.ld_rounds.specs.News.{AreNews}
 use Rattle.ld_rounds.specs.Output.{AppendsPart}
 use Rattle.ld_rounds.specs.Telling.{Told, HasTold, IsTelling}
-use Rattle.ld_rounds.specs.Rounds.{Quiet, Visiting, VisitEnd, IsVisit}
-use Rattle.ld_rounds.specs.Drives.{Driver, AllTaken, Holds, Moved, Went, Stopped, CutOr, Stops, GoesOn}
-use Rattle.ld_rounds.proofs.Joining.{Joins, quiet_visits, visiting_joins}
-use Rattle.ld_rounds.proofs.Steps.{stays, goes_on, goes_if}
+use Rattle.ld_rounds.specs.Rounds.{Visiting, VisitEnd, LoseBy, IsVisiting, IsVisit}
+use Rattle.ld_rounds.specs.Drives.{Driver, CallCounts, HasBroken, AllTaken, Holds, Moved, Went, Stopped, CutOr, Stops, GoesOn}
+use Rattle.ld_rounds.proofs.Joining.{Joins, visiting_joins, lose_if}
+use Rattle.ld_rounds.proofs.Steps.{stays, goes_on, goes_if, goes_few}
 use Rattle.ld_rounds.proofs.Driving.{moved_on}
 use Rattle.ld_rounds.proofs.Writing.{Appends-nil, none_written, all_written, lines_on, lines_cut}
 
@@ -95,11 +95,6 @@ module _ (who : Driver) (broken : Type 0) (c : Config) (first : ℕ) (b : IsInBo
     written = lines_on old mid new w.lines v.lines w.written v.written;
   }
 
-  -- quiet steps of a visit, without lines
-  abbrev pub went_visiting : (y : ℕ) (A : Config → State → Type 0) (T : Far → Type 0) (s : State) (far : Far) (qs : List (List Msg)) (a : Option (List ℕ)) → T far → Moved who broken Quiet A c first s far qs [] → Went who broken (Visiting c y) A T c first s qs a a
-  went_visiting y A T s far qs a t m =
-      went_quietly (Visiting c y) A T s far qs a t (record { state = m.state; goes = goes_if who broken c broken Quiet (Visiting c y) s m.state [] (λ l. l) (λ es e q. quiet_visits c y s es q) m.goes; holds = m.holds })
-
   -- the actor is another one, of the same part of the state
   abbrev pub went_by : (P : State → List Event → Type 0) (A B : Config → State → Type 0) (T : Far → Type 0) (s : State) (qs : List (List Msg)) (old new : Option (List ℕ)) → (w : Went who broken P A T c first s qs old new) → B c w.moved.state → Went who broken P B T c first s qs old new
   went_by P A B T s qs old new w a = record {
@@ -168,10 +163,54 @@ module _ (who : Driver) (broken : Type 0) (c : Config) (first : ℕ) (b : IsInBo
       → ((w : Went who L (Visiting c y) A T c first s qs old mid) → Y ⊎ GoesOn who K (Visiting c y) (VisitEnd c y) B U c first w.moved.state rs mid new r) → X ⊎ Went who L (Visiting c y) A T c first s qs old mid → Y ⊎ GoesOn who broken (Visiting c y) (VisitEnd c y) B U c first s rs old new r
   visiting_on {R} y L K X Y A B T U s qs rs old mid new r l o f g h = then_on {R = R} (Visiting c y) (Visiting c y) (Visiting c y) (VisitEnd c y) (VisitEnd c y) L K X Y A B T U s qs rs old mid new r (visiting_joins c y) (each_end r (λ e. visiting_joins c y)) l o f g h
 
+  -- the steps of a visit, with what they lose
+  visiting_so : (y : ℕ) (counts : CallCounts) (s : State) (es : List Event) → (broken → HasBroken counts) → LoseBy broken c s es → Visiting c y s es → IsVisiting c y counts s es
+  visiting_so y counts s es l few q = record { steps = q; few = lose_if c broken (HasBroken counts) s es l few }
+
   -- such steps that leave nothing that waits for the node
-  pub went_visit : (y : ℕ) (A : Config → State → Type 0) (T : Far → Type 0) (s : State) (qs : List (List Msg)) (old new : Option (List ℕ)) → queue_of qs y ≡ [] → Went who broken (Visiting c y) A (AllTaken T) c first s qs old new → Went who broken (IsVisit c first y) A (AllTaken T) c first s qs old new
-  went_visit y A T s qs old new z w = went_such broken (Visiting c y) (IsVisit c first y) A (AllTaken T) (AllTaken T) s qs old new (λ l. l) (λ f t. t) w
-      (λ es e q. record { steps = q; queues = qs; news = subst (λ (x : State). AreNews first x.network qs []) e (subst (λ answers. AreNews first w.moved.state.network qs answers) w.told.1 w.moved.holds.news); emptied = z })
+  pub went_visit : (y : ℕ) (counts : CallCounts) (A : Config → State → Type 0) (T : Far → Type 0) (s : State) (qs : List (List Msg)) (old new : Option (List ℕ)) → (broken → HasBroken counts) → queue_of qs y ≡ [] → Went who broken (Visiting c y) A (AllTaken T) c first s qs old new → Went who broken (IsVisit c first y counts) A (AllTaken T) c first s qs old new
+  went_visit y counts A T s qs old new l z w = record {
+    far = w.far;
+    lines = w.lines;
+    told = w.told;
+    moved = record {
+      state = w.moved.state;
+      goes = goes_few who broken c (Visiting c y) (IsVisit c first y counts) s w.moved.state w.lines
+          (λ es e few q. record {
+            visiting = visiting_so y counts s es l few q;
+            queues = qs;
+            news = subst (λ (x : State). AreNews first x.network qs []) e (subst (λ answers. AreNews first w.moved.state.network qs answers) w.told.1 w.moved.holds.news);
+            emptied = z;
+          }) w.moved.goes;
+      holds = w.moved.holds;
+    };
+    written = w.written;
+  }
+
+  -- a visit in part
+  visiting_stopped : (y : ℕ) (counts : CallCounts) (s : State) (old new : Option (List ℕ)) → (broken → HasBroken counts) → Stopped who broken (Visiting c y) c s old new → Stopped who broken (IsVisiting c y counts) c s old new
+  visiting_stopped y counts s old new l w = record {
+    state = w.state;
+    lines = w.lines;
+    goes = goes_few who broken c (Visiting c y) (IsVisiting c y counts) s w.state w.lines (λ es e few q. visiting_so y counts s es l few q) w.goes;
+    written = w.written;
+  }
+
+  visiting_went : (y : ℕ) (counts : CallCounts) (A : Config → State → Type 0) (T : Far → Type 0) (s : State) (qs : List (List Msg)) (old new : Option (List ℕ)) → (broken → HasBroken counts) → Went who broken (Visiting c y) A T c first s qs old new → Went who broken (IsVisiting c y counts) A T c first s qs old new
+  visiting_went y counts A T s qs old new l w = record {
+    far = w.far;
+    lines = w.lines;
+    told = w.told;
+    moved = record {
+      state = w.moved.state;
+      goes = goes_few who broken c (Visiting c y) (IsVisiting c y counts) s w.moved.state w.lines (λ es e few q. visiting_so y counts s es l few q) w.moved.goes;
+      holds = w.moved.holds;
+    };
+    written = w.written;
+  }
+
+  pub visit_ends : (y : ℕ) (counts : CallCounts) (A : Config → State → Type 0) (T : Far → Type 0) (s : State) (qs : List (List Msg)) (old new : Option (List ℕ)) (e : Ended) → (broken → HasBroken counts) → Stops who broken (VisitEnd c y) A T c first s qs old new e → Stops who broken (λ f. IsVisiting c y counts) A T c first s qs old new e
+  visit_ends y counts A T s qs old new e l w = cut_by e (visiting_stopped y counts s old new l) (visiting_went y counts A T s qs old new l) w
 
   -- ---- what an actor did is told ----
   module _ (P : State → List Event → Type 0) (E : Ended → State → List Event → Type 0) (A : Config → State → Type 0) (s : State) (end : Far) (before now : List (List Msg)) (old new : Option (List ℕ)) (heard : Heard)

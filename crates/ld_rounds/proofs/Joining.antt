@@ -1,7 +1,6 @@
 -- Steps of a drive, one part after the other.
 use Rattle.std.proofs.Common.{◌≡◌, ◌⊎◌, ◌≤◌, ◌<◌, ◌+◌, arith, ℕ, suc, ◌==◌, Bool, true, false, List, [], ◌∷◌, ◌++◌, Option, Some, None, Ok, Err, refl, ap, sym, ◌∙◌, subst, inl, inr, append_assoc, if◌then◌else◌}
 use Rattle.std.specs.List.{AllByRecursion}
-use Rattle.std.proofs.lemmas.Bool.{eq-eqb}
 use Rattle.std.proofs.lemmas.List.{append-nil}
 use Rattle.ld_config.specs.declared.config.Config.{Config}
 use Rattle.ld_schedule.specs.declared.event.Event.{Event}
@@ -18,9 +17,11 @@ use Rattle.ld_rounds.specs.declared.request.Request.{Request}
 use Rattle.ld_rounds.specs.declared.request.Request.TheVariants as asks
 use Rattle.ld_rounds.specs.Input.{Input, all_taken}
 use Rattle.ld_rounds.specs.Feeding.{upcoming, NoneComes, WasOver, NextIs, IsInputEnding}
-use Rattle.ld_rounds.specs.Drives.{Turned}
+use Rattle.ld_rounds.specs.Telling.{is_of}
+use Rattle.ld_rounds.specs.Drives.{Turned, AreLater, CallCounts, counted, HasBroken}
+use Rattle.ld_rounds.proofs.Counting.{counts_here, later_since, broken_since}
 use Rattle.ld_rounds.specs.Requests.{request_event, has_to_wait, is_waiting, settled_at, IsRequestBy}
-use Rattle.ld_rounds.specs.Rounds.{Splits, is_quiet, Quiet, IsDelivered, waiting_by, waiting_in, waiting, IsTickBehind, IsReminded, IsCalm, AreCalm, Calm, ticks_only, Visiting, IsVisit, AreVisits, IsPolled, IsReadRound, IsReadPart, AreReadRounds, IsRetry, MayRetry, IsAppendRound, AreAppendRounds, AreRequests, IsAsking, IsDry, tells_full, taken_by, taken_of, HasFed, Feeds, HasFedSome, FeedsUntil, Both, FindRoom, Fills, finds_full, AreFilling, IsPrepared, IsAppendPart, finds_final}
+use Rattle.ld_rounds.specs.Rounds.{Splits, Chains, IsDelivered, waiting_by, waiting_in, waiting, IsTickBehind, IsReminded, IsCalm, AreCalm, Calm, Concerns, AreAbout, Visiting, IsLossBy, LosesBy, LoseBy, IsVisiting, IsVisit, AreVisits, ArePartVisits, IsPolled, IsReadRound, IsReadPart, AreReadRounds, IsRetry, MayRetry, IsAppendRound, AreAppendRounds, AreRequests, IsAsking, IsDry, tells_full, taken_by, taken_of, HasFed, Feeds, HasFedSome, FeedsUntil, Both, FindRoom, Fills, finds_full, AreFilling, IsPrepared, IsAppendPart, finds_final}
 
 -- by so many rounds
 pub turned : {Y : Type 0} {W : ℕ → Type 0} (low high n : ℕ) → low ≤ n → n < high → Y ⊎ W n → Y ⊎ Turned low high W
@@ -90,24 +91,21 @@ module _ (c : Config) where
   pub calm_joins : Joins c (Calm c) (Calm c) (Calm c)
   calm_joins s es fs a b = calm-append None s es fs a b
 
+  about-append : (y : ℕ) (s : State) (es fs : List Event) → AreAbout y c s es → AreAbout y c (state_after c s es) fs → AreAbout y c s (es ++ fs)
+  unfolding state_after
+  about-append y s [] fs a b = b
+  about-append y s (e ∷ es) fs a b = (a.0, about-append y (step c s e).state es fs a.1 b)
+
   pub visiting_joins : (y : ℕ) → Joins c (Visiting c y) (Visiting c y) (Visiting c y)
-  visiting_joins y s es fs a b = (calm_joins s es fs a.0 b.0, all-append (λ e. ticks_only y e ≡ true) es fs a.1 b.1)
+  visiting_joins y s es fs a b = (calm_joins s es fs a.0 b.0, about-append y s es fs a.1 b.1)
 
-  -- quiet steps are such
-  quiet_calm : (o : Option ℕ) (s : State) (es : List Event) → Quiet s es → AreCalm c o s es
-  quiet_calm o s [] h = tt
-  quiet_calm o s (events.Deliver i ∷ es) h = (tt, quiet_calm (waiting s (events.Deliver i) o) (step c s (events.Deliver i)).state es h.1)
-  quiet_calm o s (events.Lose i ∷ es) h = (tt, quiet_calm (waiting s (events.Lose i) o) (step c s (events.Lose i)).state es h.1)
-  quiet_calm o s (e ∷ es) h = (let wrong = h.0 in absurd cc)
+  -- the message of a place is lost
+  pub lost_visits : (y i : ℕ) (m : Msg) (s : State) → message s.network i ≡ Some m → Concerns y (Some m) → Visiting c y s (events.Lose i ∷ [])
+  lost_visits y i m s there of = ((tt, tt), (subst (λ (o : Option Msg). Concerns y o) (sym there) of, tt))
 
-  quiet_only : (y : ℕ) (s : State) (es : List Event) → Quiet s es → AllByRecursion (λ e. ticks_only y e ≡ true) es
-  quiet_only y s [] h = tt
-  quiet_only y s (events.Deliver i ∷ es) h = (refl, quiet_only y s es h.1)
-  quiet_only y s (events.Lose i ∷ es) h = (refl, quiet_only y s es h.1)
-  quiet_only y s (e ∷ es) h = (let wrong = h.0 in absurd cc)
-
-  pub quiet_visits : (y : ℕ) (s : State) (es : List Event) → Quiet s es → Visiting c y s es
-  quiet_visits y s es h = (quiet_calm None s es h, quiet_only y s es h)
+  -- it is delivered
+  pub sent_visits : (y i : ℕ) (m : Msg) (s : State) → message s.network i ≡ Some m → Concerns y (Some m) → Visiting c y s (events.Deliver i ∷ [])
+  sent_visits y i m s there of = ((tt, tt), (subst (λ (o : Option Msg). Concerns y o) (sym there) of, tt))
 
   -- ticks of the node that waits
   ticks_calm : (y : ℕ) (m : Msg) (s : State) (es : List Event) → IsReminded y m s es → AreCalm c (waiting_by m.from m.body) s es
@@ -115,32 +113,29 @@ module _ (c : Config) where
   ticks_calm y m s (events.Tick n l ∷ es) h = (h.0.1 ∙ ap (λ (k : ℕ). Some k) (sym h.0.0), ticks_calm y m (step c s (events.Tick n l)).state es h.1)
   ticks_calm y m s (e ∷ es) h = absurd h.0
 
-  ticks_of : (y : ℕ) (m : Msg) (es : List Event) → AllByRecursion (IsTickBehind y m) es → AllByRecursion (λ e. ticks_only y e ≡ true) es
-  ticks_of y m [] h = tt
-  ticks_of y m (events.Tick n l ∷ es) h = (eq-eqb n y h.0.0, ticks_of y m es h.1)
-  ticks_of y m (e ∷ es) h = absurd h.0
+  ticks_about : (y : ℕ) (m : Msg) (s : State) (es : List Event) → AllByRecursion (IsTickBehind y m) es → AreAbout y c s es
+  ticks_about y m s [] h = tt
+  ticks_about y m s (events.Tick n l ∷ es) h = (h.0.0, ticks_about y m (step c s (events.Tick n l)).state es h.1)
+  ticks_about y m s (e ∷ es) h = absurd h.0
 
-  delivered_calm : (y i : ℕ) (m : Msg) (s : State) (fs : List Event) → message s.network i ≡ Some m → IsReminded y m (step c s (events.Deliver i)).state fs → Visiting c y s (events.Deliver i ∷ fs)
-  delivered_calm y i m s fs there h =
+  delivered_calm : (y i : ℕ) (m : Msg) (s : State) (fs : List Event) → is_of y m.from ≡ true → message s.network i ≡ Some m → IsReminded y m (step c s (events.Deliver i)).state fs → Visiting c y s (events.Deliver i ∷ fs)
+  delivered_calm y i m s fs of there h =
       let t : State = (step c s (events.Deliver i)).state in
-      ((tt, subst (λ (o : Option Msg). AreCalm c (waiting_in o) t fs) (sym there) (ticks_calm y m t fs h)), (refl, ticks_of y m fs h))
+      ((tt, subst (λ (o : Option Msg). AreCalm c (waiting_in o) t fs) (sym there) (ticks_calm y m t fs h)), (subst (λ (o : Option Msg). Concerns y o) (sym there) (inr of), ticks_about y m t fs h))
 
-  -- an answer is delivered, and its node is ticked
-  pub reminded_joins : (y : ℕ) (m : Msg) → Joins c (IsDelivered m) (IsReminded y m) (Visiting c y)
+  -- an answer of the node is delivered, and the node is ticked
+  pub reminded_joins : (y : ℕ) (m : Msg) → is_of y m.from ≡ true → Joins c (IsDelivered m) (IsReminded y m) (Visiting c y)
   unfolding state_after
-  reminded_joins y m s es fs d h =
+  reminded_joins y m of s es fs d h =
       let here : IsReminded y m (step c s (events.Deliver d.place)).state fs = h in
-      subst (λ (l : List Event). Visiting c y s (l ++ fs)) (sym d.one) (delivered_calm y d.place m s fs d.there here)
+      subst (λ (l : List Event). Visiting c y s (l ++ fs)) (sym d.one) (delivered_calm y d.place m s fs of d.there here)
 
-  pub delivered_visits : (y : ℕ) (m : Msg) (s : State) (es : List Event) → IsDelivered m s es → Visiting c y s es
-  delivered_visits y m s es d = subst (λ (l : List Event). Visiting c y s l) (sym d.one) (delivered_calm y d.place m s [] d.there tt)
+  pub delivered_visits : (y : ℕ) (m : Msg) → is_of y m.from ≡ true → (s : State) (es : List Event) → IsDelivered m s es → Visiting c y s es
+  delivered_visits y m of s es d = subst (λ (l : List Event). Visiting c y s l) (sym d.one) (delivered_calm y d.place m s [] of d.there tt)
 
   -- more of them
   pub reminds_join : (y : ℕ) (m : Msg) → Joins c (IsReminded y m) (IsReminded y m) (IsReminded y m)
   reminds_join y m s es fs a b = all-append (IsTickBehind y m) es fs a b
-
-  pub quiet_joins : Joins c Quiet Quiet Quiet
-  quiet_joins s es fs a b = all-append (λ e. is_quiet e ≡ true) es fs a b
 
   pub requests_join : (name : List ℕ) → Joins c (AreRequests name c) (AreRequests name c) (AreRequests name c)
   unfolding state_after
@@ -167,41 +162,116 @@ module _ (c : Config) where
   pub splits_as : (P Q N M : State → List Event → Type 0) (s : State) (es : List Event) → ((t : State) (fs : List Event) → P t fs → N t fs) → ((t : State) (fs : List Event) → Q t fs → M t fs) → Splits P Q c s es → Splits N M c s es
   splits_as P Q N M s es f g h = record { front = h.front; rest = h.rest; whole = h.whole; came = f s h.front h.came; goes = g (state_after c s h.front) h.rest h.goes }
 
+  -- one part of the counts after the other
+  pub chains_join : (P Q : CallCounts → State → List Event → Type 0) (f g h e d k : ℕ) → AreLater f g e d → AreLater g h d k → Joins c (P (counted f g e d)) (Q (counted g h d k)) (Chains P Q c (counted f h e k))
+  chains_join P Q f g h e d k l m s es fs p q = record { faults = g; endings = d; since = l; until = m; parts = record { front = es; rest = fs; whole = refl; came = p; goes = q } }
+
   -- ---- visits ----
 
-  pub visits_calm : (first : ℕ) (ys : List ℕ) (s : State) (es : List Event) → AreVisits c first ys s es → Calm c s es
-  visits_calm first [] s es h = subst (λ (l : List Event). Calm c s l) (sym h) tt
-  visits_calm first (y ∷ ys) s es h = subst (λ (l : List Event). Calm c s l) (sym h.whole) (calm_joins s h.front h.rest h.came.steps.0 (visits_calm first ys (state_after c s h.front) h.rest h.goes))
+  -- more was broken
+  pub lose_if : (one other : Type 0) (s : State) (es : List Event) → (one → other) → LoseBy one c s es → LoseBy other c s es
+  lose_if one other s [] f h = tt
+  lose_if one other s (e ∷ es) f h = (event_if e h.0, lose_if one other (step c s e).state es f h.1)
+    where
+      loss_if : (o : Option Msg) → IsLossBy one o → IsLossBy other o
+      loss_if None x = x
+      loss_if (Some m) (inl x) = inl x
+      loss_if (Some m) (inr x) = inr (f x)
+
+      event_if : (x : Event) → LosesBy one s x → LosesBy other s x
+      event_if (events.Lose i) x = loss_if (message s.network i) x
+      event_if x y = tt
+
+  pub visiting_since : (y f g h e d k : ℕ) (s : State) (es : List Event) → AreLater f g e d → IsVisiting c y (counted g h d k) s es → IsVisiting c y (counted f h e k) s es
+  visiting_since y f g h e d k s es l v = record { steps = v.steps; few = lose_if (HasBroken (counted g h d k)) (HasBroken (counted f h e k)) s es (broken_since f g h e d k l) v.few }
+
+  visit_since : (first y f g h e d k : ℕ) (s : State) (es : List Event) → AreLater f g e d → IsVisit c first y (counted g h d k) s es → IsVisit c first y (counted f h e k) s es
+  visit_since first y f g h e d k s es l v = record { visiting = visiting_since y f g h e d k s es l v.visiting; queues = v.queues; news = v.news; emptied = v.emptied }
+
+  pub visits_calm : (first : ℕ) (ys : List ℕ) (counts : CallCounts) (s : State) (es : List Event) → AreVisits c first ys counts s es → Calm c s es
+  visits_calm first [] counts s es h = subst (λ (l : List Event). Calm c s l) (sym h) tt
+  visits_calm first (y ∷ ys) counts s es h =
+      let p = h.parts in
+      subst (λ (l : List Event). Calm c s l) (sym p.whole) (calm_joins s p.front p.rest p.came.visiting.steps.0 (visits_calm first ys (counted h.faults counts.faults_now h.endings counts.endings_now) (state_after c s p.front) p.rest p.goes))
+
+  pub part_calm : (first : ℕ) (ys : List ℕ) (counts : CallCounts) (s : State) (es : List Event) → ArePartVisits c first ys counts s es → Calm c s es
+  part_calm first [] counts s es h = subst (λ (l : List Event). Calm c s l) (sym h) tt
+  part_calm first (y ∷ ys) counts s es (inl v) = v.steps.0
+  part_calm first (y ∷ ys) counts s es (inr h) =
+      let p = h.parts in
+      subst (λ (l : List Event). Calm c s l) (sym p.whole) (calm_joins s p.front p.rest p.came.visiting.steps.0 (part_calm first ys (counted h.faults counts.faults_now h.endings counts.endings_now) (state_after c s p.front) p.rest p.goes))
+
+  -- none is visited yet
+  pub none_visited : (first : ℕ) (ys : List ℕ) (counts : CallCounts) (s : State) → ArePartVisits c first ys counts s []
+  none_visited first [] counts s = refl
+  none_visited first (y ∷ ys) counts s = inl (record { steps = (tt, tt); few = tt })
+
+  -- all are
+  pub all_visited : (first : ℕ) (ys : List ℕ) (counts : CallCounts) (s : State) (es : List Event) → AreVisits c first ys counts s es → ArePartVisits c first ys counts s es
+  all_visited first [] counts s es h = h
+  all_visited first (y ∷ ys) counts s es h = inr (record {
+    faults = h.faults;
+    endings = h.endings;
+    since = h.since;
+    until = h.until;
+    parts = splits_as (IsVisit c first y (counted counts.faults h.faults counts.endings h.endings)) (AreVisits c first ys (counted h.faults counts.faults_now h.endings counts.endings_now)) (IsVisit c first y (counted counts.faults h.faults counts.endings h.endings)) (ArePartVisits c first ys (counted h.faults counts.faults_now h.endings counts.endings_now)) s es
+        (λ t fs x. x) (all_visited first ys (counted h.faults counts.faults_now h.endings counts.endings_now)) h.parts;
+  })
 
   -- one more node is visited
-  pub visits_push : (first : ℕ) (ys : List ℕ) (y : ℕ) → Joins c (AreVisits c first ys) (IsVisit c first y) (AreVisits c first (ys ++ y ∷ []))
-  visits_push first [] y s es fs h v =
-      subst (λ (l : List Event). Splits (IsVisit c first y) (AreVisits c first []) c s (l ++ fs)) (sym h)
-      (splits_end (IsVisit c first y) (AreVisits c first []) s fs (subst (λ (x : State). IsVisit c first y x fs) (ap (state_after c s) h ∙ after_none c s) v) refl)
-  visits_push first (z ∷ zs) y s es fs h v = splits_more (IsVisit c first z) (AreVisits c first zs) (IsVisit c first y) (AreVisits c first (zs ++ y ∷ [])) (visits_push first zs y) s es fs h v
+  pub visits_push : (first : ℕ) (ys : List ℕ) (y f g h e d k : ℕ) → AreLater f g e d → AreLater g h d k → Joins c (AreVisits c first ys (counted f g e d)) (IsVisit c first y (counted g h d k)) (AreVisits c first (ys ++ y ∷ []) (counted f h e k))
+  visits_push first [] y f g h e d k l m s es fs none v =
+      let here = subst (λ (x : State). IsVisit c first y (counted g h d k) x fs) (ap (state_after c s) none ∙ after_none c s) v in
+      subst (λ (z : List Event). Chains (IsVisit c first y) (AreVisits c first []) c (counted f h e k) s (z ++ fs)) (sym none) (record {
+        faults = h;
+        endings = k;
+        since = later_since f g h e d k l m;
+        until = counts_here h k;
+        parts = splits_end (IsVisit c first y (counted f h e k)) (AreVisits c first [] (counted h h k k)) s fs (visit_since first y f g h e d k s fs l here) refl;
+      })
+  visits_push first (z ∷ zs) y f g h e d k l m s es fs p v = record {
+    faults = p.faults;
+    endings = p.endings;
+    since = p.since;
+    until = later_since p.faults g h p.endings d k p.until m;
+    parts = splits_more (IsVisit c first z (counted f p.faults e p.endings)) (AreVisits c first zs (counted p.faults g p.endings d)) (IsVisit c first y (counted g h d k)) (AreVisits c first (zs ++ y ∷ []) (counted p.faults h p.endings k))
+        (visits_push first zs y p.faults g h p.endings d k p.until m) s es fs p.parts v;
+  }
 
   -- and a part of one more
-  pub visits_part : (first : ℕ) (ys : List ℕ) (y : ℕ) → Joins c (AreVisits c first ys) (Visiting c y) (Calm c)
-  visits_part first ys y s es fs h q = calm_joins s es fs (visits_calm first ys s es h) q.0
+  pub visits_part : (first : ℕ) (ys zs : List ℕ) (y f g h e d k : ℕ) → AreLater f g e d → AreLater g h d k → Joins c (AreVisits c first ys (counted f g e d)) (IsVisiting c y (counted g h d k)) (ArePartVisits c first (ys ++ y ∷ zs) (counted f h e k))
+  visits_part first [] zs y f g h e d k l m s es fs none v =
+      let here = subst (λ (x : State). IsVisiting c y (counted g h d k) x fs) (ap (state_after c s) none ∙ after_none c s) v in
+      inl (subst (λ (x : List Event). IsVisiting c y (counted f h e k) s (x ++ fs)) (sym none) (visiting_since y f g h e d k s fs l here))
+  visits_part first (x ∷ xs) zs y f g h e d k l m s es fs p v = inr (record {
+    faults = p.faults;
+    endings = p.endings;
+    since = p.since;
+    until = later_since p.faults g h p.endings d k p.until m;
+    parts = splits_more (IsVisit c first x (counted f p.faults e p.endings)) (AreVisits c first xs (counted p.faults g p.endings d)) (IsVisiting c y (counted g h d k)) (ArePartVisits c first (xs ++ y ∷ zs) (counted p.faults h p.endings k))
+        (visits_part first xs zs y p.faults g h p.endings d k p.until m) s es fs p.parts v;
+  })
 
   -- ---- rounds ----
 
   -- one more of a reader; its rounds are alike
-  pub read_more : (sparing : Bool) (name : List ℕ) (first : ℕ) (ys : List ℕ) (n : ℕ) → Joins c (AreReadRounds sparing name c first ys n) (IsReadRound sparing name c first ys) (AreReadRounds sparing name c first ys (n + 1))
-  read_more sparing name first ys n s es fs h r =
-      let e : n + 1 ≡ suc n = omega arith in
-      subst (λ (k : ℕ). AreReadRounds sparing name c first ys k s (es ++ fs)) (sym e) (record { front = es; rest = fs; whole = refl; came = h; goes = r })
+  pub read_more : (sparing : Bool) (name : List ℕ) (first : ℕ) (ys : List ℕ) (n f g h e d k : ℕ) → AreLater f g e d → AreLater g h d k
+      → Joins c (AreReadRounds sparing name c first ys n (counted f g e d)) (IsReadRound sparing name c first ys (counted g h d k)) (AreReadRounds sparing name c first ys (n + 1) (counted f h e k))
+  read_more sparing name first ys n f g h e d k l m s es fs p r =
+      let more : n + 1 ≡ suc n = omega arith in
+      subst (λ (i : ℕ). AreReadRounds sparing name c first ys i (counted f h e k) s (es ++ fs)) (sym more) (chains_join (AreReadRounds sparing name c first ys n) (IsReadRound sparing name c first ys) f g h e d k l m s es fs p r)
 
   -- a part of one that is begun, or isn't
-  pub part_begun : (sparing : Bool) (name : List ℕ) (first : ℕ) (ys : List ℕ) (s : State) (es : List Event) → (es ≡ []) ⊎ IsPolled sparing name first ys s es → IsReadPart sparing name c first ys s es
-  part_begun sparing name first ys s es (inl e) = inl e
-  part_begun sparing name first ys s es (inr p) = inr (splits_end (IsPolled sparing name first ys) (Calm c) s es p tt)
+  pub part_begun : (sparing : Bool) (name : List ℕ) (first : ℕ) (ys : List ℕ) (counts : CallCounts) (s : State) (es : List Event) → (es ≡ []) ⊎ IsPolled sparing name first ys s es → IsReadPart sparing name c first ys counts s es
+  part_begun sparing name first ys counts s es (inl e) = inl e
+  part_begun sparing name first ys counts s es (inr p) = inr (splits_end (IsPolled sparing name first ys) (ArePartVisits c first ys counts) s es p (none_visited first ys counts (state_after c s es)))
 
   -- one more of a sequencer
-  pub append_more : (name : List ℕ) (first : ℕ) (ys : List ℕ) (n : ℕ) → Joins c (AreAppendRounds name c first ys n) (IsAppendRound name c (Unit {0}) first ys (n == 0)) (AreAppendRounds name c first ys (n + 1))
-  append_more name first ys n s es fs h r =
-      let e : n + 1 ≡ suc n = omega arith in
-      subst (λ (k : ℕ). AreAppendRounds name c first ys k s (es ++ fs)) (sym e) (record { front = es; rest = fs; whole = refl; came = h; goes = r })
+  pub append_more : (name : List ℕ) (first : ℕ) (ys : List ℕ) (n f g h e d k : ℕ) → AreLater f g e d → AreLater g h d k
+      → Joins c (AreAppendRounds name c first ys n (counted f g e d)) (IsAppendRound name c (Unit {0}) first ys (n == 0) (counted g h d k)) (AreAppendRounds name c first ys (n + 1) (counted f h e k))
+  append_more name first ys n f g h e d k l m s es fs p r =
+      let more : n + 1 ≡ suc n = omega arith in
+      subst (λ (i : ℕ). AreAppendRounds name c first ys i (counted f h e k) s (es ++ fs)) (sym more) (chains_join (AreAppendRounds name c first ys n) (IsAppendRound name c (Unit {0}) first ys (n == 0)) f g h e d k l m s es fs p r)
 
   -- ---- both ----
 
@@ -436,12 +506,12 @@ module _ (c : Config) where
   pub prepared_as : (name : List ℕ) (P Q : Type 0) (b : Bool) (s : State) (es : List Event) → (P → Q) → IsPrepared name c P b s es → IsPrepared name c Q b s es
   prepared_as name P Q b s es f h = splits_as (IsRetry name b) (AreFilling name c P) (IsRetry name b) (AreFilling name c Q) s es (λ u l y. y) (λ u l y. (y.0, fills_as P Q u l f y.1)) h
 
-  pub round_as : (name : List ℕ) (P Q : Type 0) (first : ℕ) (ys : List ℕ) (b : Bool) (s : State) (es : List Event) → (P → Q) → IsAppendRound name c P first ys b s es → IsAppendRound name c Q first ys b s es
-  round_as name P Q first ys b s es f h =
-      splits_as (IsPrepared name c P b) (AreVisits c first ys) (IsPrepared name c Q b) (AreVisits c first ys) s es (λ t fs x. prepared_as name P Q b t fs f x) (λ t fs x. x) h
+  pub round_as : (name : List ℕ) (P Q : Type 0) (first : ℕ) (ys : List ℕ) (b : Bool) (counts : CallCounts) (s : State) (es : List Event) → (P → Q) → IsAppendRound name c P first ys b counts s es → IsAppendRound name c Q first ys b counts s es
+  round_as name P Q first ys b counts s es f h =
+      splits_as (IsPrepared name c P b) (AreVisits c first ys counts) (IsPrepared name c Q b) (AreVisits c first ys counts) s es (λ t fs x. prepared_as name P Q b t fs f x) (λ t fs x. x) h
 
   -- a round is a part of one
-  pub round_part : (name : List ℕ) (P : Type 0) (first : ℕ) (ys : List ℕ) (b : Bool) (s : State) (es : List Event) → IsAppendRound name c P first ys b s es → IsAppendPart name c b s es
-  round_part name P first ys b s es h =
-      splits_as (IsPrepared name c P b) (AreVisits c first ys) (Splits (MayRetry name b) (AreRequests name c) c) (Calm c) s es
-      (λ t fs x. splits_as (IsRetry name b) (AreFilling name c P) (MayRetry name b) (AreRequests name c) t fs (may_retry name b) (λ u l y. y.0) x) (visits_calm first ys) h
+  pub round_part : (name : List ℕ) (P : Type 0) (first : ℕ) (ys : List ℕ) (b : Bool) (counts : CallCounts) (s : State) (es : List Event) → IsAppendRound name c P first ys b counts s es → IsAppendPart name c first ys b counts s es
+  round_part name P first ys b counts s es h =
+      splits_as (IsPrepared name c P b) (AreVisits c first ys counts) (Splits (MayRetry name b) (AreRequests name c) c) (ArePartVisits c first ys counts) s es
+      (λ t fs x. splits_as (IsRetry name b) (AreFilling name c P) (MayRetry name b) (AreRequests name c) t fs (may_retry name b) (λ u l y. y.0) x) (all_visited first ys counts) h

@@ -1,4 +1,5 @@
 pub mod Clients
+pub mod Counting
 pub mod Driving
 pub mod Endings
 pub mod Feeding
@@ -6,6 +7,7 @@ pub mod Going
 pub mod Joining
 pub mod Listening
 pub mod News
+pub mod Onward
 pub mod Polling
 pub mod Queueing
 pub mod Reminding

@@ -301,6 +301,10 @@ sent_asks first w qs ans (m ∷ ms) n l f =
     (ap (λ (b : Bool). if b then ans ++ m ∷ [] else ans) f.0) in
     sent_asks first (send w m) (put_one qs m) ans ms one (length-put_to qs m m.to ∙ l) f.1
 
+-- the first message that waits for a node does
+pub first_is : (first : ℕ) (w : Network) (qs : List (List Msg)) (ans : List Msg) (y : ℕ) (m : Msg) (rest : List Msg) → AreNews first w qs ans → IsNode y → queue_of qs y ≡ m ∷ rest → waits_for y m ≡ true
+first_is first w qs ans y m rest n is q = (pick first w.count (waits_for y) n.news m rest n.rise (n.queued y is ∙ q)).is
+
 -- the first message that waits for a node goes to it
 pub first_waits : (first : ℕ) (w : Network) (qs : List (List Msg)) (ans : List Msg) (y : ℕ) (m : Msg) (rest : List Msg) → AreNews first w qs ans → IsNode y → queue_of qs y ≡ m ∷ rest → m.to ≡ whos.Node y
 first_waits first w qs ans y m rest n is q = waits_is y m (pick first w.count (waits_for y) n.news m rest n.rise (n.queued y is ∙ q)).is

@@ -32,6 +32,7 @@ use Rattle.ld_rounds.specs.declared.request.Request.{Request}
 use Rattle.ld_rounds.specs.declared.request.Request.TheVariants as asks
 use Rattle.ld_rounds.specs.Telling.{is_answered, AnswersOf}
 use Rattle.ld_rounds.specs.Drives.{is_own, own_lines, Driver, MayLose, IsDriven, AreDriven, Goes}
+use Rattle.ld_rounds.specs.Rounds.{IsLossBy, LosesBy, LoseBy}
 use Rattle.ld_rounds.proofs.Joining.{Joins, after-append}
 
 -- ---- lines ----
@@ -55,7 +56,7 @@ own_finished d =
 
 -- ---- one after the other ----
 
-lines-append : (c : Config) (s : State) (es fs : List Event) → lines_of c s (es ++ fs) ≡ lines_of c s es ++ lines_of c (state_after c s es) fs
+pub lines-append : (c : Config) (s : State) (es fs : List Event) → lines_of c s (es ++ fs) ≡ lines_of c s es ++ lines_of c (state_after c s es) fs
 unfolding state_after lines_of
 lines-append c s [] fs = refl
 lines-append c s (e ∷ es) fs =
@@ -89,6 +90,20 @@ driven_if who one other c s (e ∷ es) f d = (event_if e d.0, driven_if who one 
     event_if (events.Lose i) h = lose_if (who.takes s) (message s.network i) h
     event_if x h = absurd h
 
+-- what they lose
+few_of : (who : Driver) (broken : Type 0) (c : Config) (s : State) (es : List Event) → AreDriven who broken c s es → LoseBy broken c s es
+few_of who broken c s [] d = tt
+few_of who broken c s (e ∷ es) d = (few_by e d.0, few_of who broken c (step c s e).state es d.1)
+  where
+    loss_of : (takes : Msg → Bool) (o : Option Msg) → MayLose broken takes o → IsLossBy broken o
+    loss_of takes None h = h
+    loss_of takes (Some m) (inl h) = inr h.1
+    loss_of takes (Some m) (inr h) = inl h.0
+
+    few_by : (x : Event) → IsDriven who broken s x → LosesBy broken s x
+    few_by (events.Lose i) h = loss_of (who.takes s) (message s.network i) h
+    few_by x h = tt
+
 module _ (who : Driver) (broken : Type 0) (c : Config) where
   pub stays : (P : State → List Event → Type 0) (s : State) → P s [] → Goes who broken P c s s []
   unfolding state_after lines_of
@@ -118,6 +133,10 @@ module _ (who : Driver) (broken : Type 0) (c : Config) where
   -- where more is broken, and less is said of the steps
   pub goes_if : (less : Type 0) (P Q : State → List Event → Type 0) (s t : State) (xs : List Line) → (less → broken) → ((es : List Event) → t ≡ state_after c s es → P s es → Q s es) → Goes who less P c s t xs → Goes who broken Q c s t xs
   goes_if less P Q s t xs f p g = record { steps = g.steps; driven = driven_if who less broken c s g.steps f g.driven; such = p g.steps g.state g.such; state = g.state; lines = g.lines }
+
+  -- where what they lose is told too
+  pub goes_few : (P Q : State → List Event → Type 0) (s t : State) (xs : List Line) → ((es : List Event) → t ≡ state_after c s es → LoseBy broken c s es → P s es → Q s es) → Goes who broken P c s t xs → Goes who broken Q c s t xs
+  goes_few P Q s t xs p g = record { steps = g.steps; driven = g.driven; such = p g.steps g.state (few_of who broken c s g.steps g.driven) g.such; state = g.state; lines = g.lines }
 
 -- ---- the steps of a visit ----
 

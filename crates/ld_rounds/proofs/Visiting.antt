@@ -18,14 +18,14 @@ use Rattle.ld_rounds.specs.Queued.{queue_of, behind, waits}
 use Rattle.std.proofs.lemmas.List.{set-get_or, length-append}
 use Rattle.ld_rounds.specs.Telling.{is_of, is_answered, missed_by, AnswersOf}
 use Rattle.ld_rounds.specs.Listening.{unsent_by, due_with}
-use Rattle.ld_rounds.specs.Drives.{Driver, AreOfConfig, IsBroken, AreLater, IsApart, Holds, Went, GoesOn, WithNode, Answering}
+use Rattle.ld_rounds.specs.Drives.{Driver, AreOfConfig, AreLater, IsApart, Holds, Went, GoesOn, WithNode, Answering}
 use Rattle.ld_rounds.specs.Acts.{Own, IsDriverOf}
 use Rattle.ld_rounds.proofs.News.{first_waits}
 use Rattle.ld_rounds.proofs.Steps.{answers_once, answers_none}
 use Rattle.ld_rounds.specs.Rounds.{Visiting, VisitEnd}
 use Rattle.ld_rounds.proofs.Joining.{visiting_joins}
-use Rattle.ld_rounds.proofs.Driving.{lose_first, lose_answer, lose_queue, turn_to, hand_first, moved_quietly}
-use Rattle.ld_rounds.proofs.Going.{went_visiting, went_on, stopped_here}
+use Rattle.ld_rounds.proofs.Driving.{lose_first, lose_answer, lose_queue, turn_to, hand_first, moved_visiting}
+use Rattle.ld_rounds.proofs.Going.{went_quietly, went_on, stopped_here}
 
 some_is : {X : Type 0} {a b : X} → Some a ≡ Some b → a ≡ b
 some_is {X} {a} {b} e = ap (λ o. of o a) e
@@ -74,17 +74,6 @@ ending_later before now (Err f) h = omega (arith, h)
 -- after a call that finds no ending
 pub sent_later : {T : Type 0} (f g e d : ℕ) (r : Result T Fault) → CountsFault f g r → d ≡ e → AreLater f g e d
 sent_later f g e d r h same = (fault_later f g r h, omega (arith, same))
-
-pub later_since : (f g h e d k : ℕ) → AreLater f g e d → AreLater g h d k → AreLater f h e k
-later_since f g h e d k p q = (omega (arith, p.0, q.0), omega (arith, p.1, q.1))
-
-pub broken_since : (f g h e d k : ℕ) → AreLater f g e d → IsBroken g h d k → IsBroken f h e k
-broken_since f g h e d k l (inl r) = inl (omega (arith, l.0, r))
-broken_since f g h e d k l (inr r) = inr (omega (arith, l.1, r))
-
-pub broken_until : (f g h e d k : ℕ) → AreLater g h d k → IsBroken f g e d → IsBroken f h e k
-broken_until f g h e d k l (inl r) = inl (omega (arith, l.0, r))
-broken_until f g h e d k l (inr r) = inr (omega (arith, l.1, r))
 
 -- a queue that is emptied
 pub emptied : (qs : List (List Msg)) (y : ℕ) → queue_of (set qs y []) y ≡ []
@@ -153,9 +142,9 @@ takes_is f own s m x y e taken is = ap (λ (g : State → Msg → Bool). g s m) 
 
 module _ (who : Driver) (broken : Type 0) (c : Config) (first : ℕ) (b : IsInBounds c) (A : Config → State → Type 0) (apart : IsApart A) (s : State) where
   -- an answer that the actor doesn't take does nothing
-  pub ignored : (y : ℕ) (far : Far) (qs : List (List Msg)) (m : Msg) (rest : List Msg) (w : Option (List ℕ)) → far.answers ≡ m ∷ rest → who.takes s m ≡ false → Holds A c first s far qs
+  pub ignored : (y : ℕ) (far : Far) (qs : List (List Msg)) (m : Msg) (rest : List Msg) (w : Option (List ℕ)) → is_of y m.from ≡ true → far.answers ≡ m ∷ rest → who.takes s m ≡ false → Holds A c first s far qs
       → Went who broken (Visiting c y) A (λ now. now ≡ record far { answers = rest }) c first s qs w w
-  ignored y far qs m rest w e untaken h = went_visiting who broken c first b y A (λ now. now ≡ record far { answers = rest }) s (record far { answers = rest }) qs w refl (lose_answer who broken c first b A apart s far qs m rest h e untaken)
+  ignored y far qs m rest w of e untaken h = went_quietly who broken c first b (Visiting c y) A (λ now. now ≡ record far { answers = rest }) s (record far { answers = rest }) qs w refl (lose_answer who broken c first b A apart y s far qs m rest of h e untaken)
 
   module _ (tells : Config → Far → Type 0) (far : Far) (y due : ℕ) (present : far.present ≡ Some y) (of : AnswersOf y due far.answers) (is : IsNode y) (w : Option (List ℕ)) where
     -- what stands there once the node has handled a message
@@ -167,7 +156,7 @@ module _ (who : Driver) (broken : Type 0) (c : Config) (first : ℕ) (b : IsInBo
 
     handed_as : (n : ℕ) (qs : List (List Msg)) (m : Msg) (rest : List Msg) → Holds A c first s far qs → queue_of qs y ≡ m ∷ rest → AnswersOf y n (handed c far.nodes y m).sends → IsHanded c far m (tells c) → Went who broken (Visiting c y) A (Answering tells c y (due + n)) c first s (set qs y rest) w w
     handed_as n qs m rest h q a i =
-        went_visiting who broken c first b y A (Answering tells c y (due + n)) s (handled m) (set qs y rest) w (told_of m i, refl, answers_more y due n far.answers (handed c far.nodes y m).sends of a)
+        went_quietly who broken c first b (Visiting c y) A (Answering tells c y (due + n)) s (handled m) (set qs y rest) w (told_of m i, refl, answers_more y due n far.answers (handed c far.nodes y m).sends of a)
         (hand_first who broken c first b A apart s far qs y m rest h is q (first_waits first s.network qs far.answers y m rest h.news is q))
 
     -- the first message is handled by the node
@@ -180,7 +169,7 @@ module _ (who : Driver) (broken : Type 0) (c : Config) (first : ℕ) (b : IsInBo
 
     -- the first message is lost
     gone_on : broken → (qs : List (List Msg)) (m : Msg) (rest : List Msg) → Holds A c first s far qs → queue_of qs y ≡ m ∷ rest → tells c far → Went who broken (Visiting c y) A (Answering tells c y due) c first s (set qs y rest) w w
-    gone_on why qs m rest h q t = went_visiting who broken c first b y A (Answering tells c y due) s far (set qs y rest) w (t, present, of) (lose_first who broken c first b A apart why s far qs y m rest h is q)
+    gone_on why qs m rest h q t = went_quietly who broken c first b (Visiting c y) A (Answering tells c y due) s far (set qs y rest) w (t, present, of) (lose_first who broken c first b A apart why s far qs y m rest h is q)
 
     -- it isn't sent
     pub unsent : (quiet : Bool) (m : Msg) (rest : List Msg) (qs : List (List Msg)) (f : Fault) (before count : ℕ) → CountsFault {T = Unit {0}} before count (Err f) → (Rose before count → broken) → Holds A c first s far qs → queue_of qs y ≡ m ∷ rest → SendsTo c far m quiet (tells c) (Err f)
@@ -198,16 +187,16 @@ module _ (who : Driver) (broken : Type 0) (c : Config) (first : ℕ) (b : IsInBo
 
   -- a node is dialed
   pub dialed : (tells : Config → Far → Type 0) (far : Far) (y : ℕ) (qs : List (List Msg)) (w : Option (List ℕ)) → far.answers ≡ [] → Holds A c first s far qs → tells c (record { nodes = far.nodes; present = Some y; answers = [] }) → Went who broken (Visiting c y) A (WithNode tells c y) c first s qs w w
-  dialed tells far y qs w none h t = went_visiting who broken c first b y A (WithNode tells c y) s (record { nodes = far.nodes; present = Some y; answers = [] }) qs w ((t, refl), refl) (turn_to who broken c first b A apart s far (Some y) qs none h)
+  dialed tells far y qs w none h t = went_quietly who broken c first b (Visiting c y) A (WithNode tells c y) s (record { nodes = far.nodes; present = Some y; answers = [] }) qs w ((t, refl), refl) (turn_to who broken c first b A apart y s far (Some y) qs none h)
 
   -- a node wasn't reached, and what waits for it is dropped
   pub missed : broken → (T : Far → Type 0) (far : Far) (y : ℕ) (qs : List (List Msg)) (w : Option (List ℕ)) → far.answers ≡ [] → IsNode y → Holds A c first s far qs → T (record { nodes = far.nodes; present = None; answers = [] }) → Went who broken (Visiting c y) A T c first s (set qs y []) w w
   missed why T far y qs w none is h t =
       let end : Far = record { nodes = far.nodes; present = None; answers = [] } in
-      let m = turn_to who broken c first b A apart s far None qs none h in
-      went_visiting who broken c first b y A T s end (set qs y []) w t (moved_quietly who broken c first b A A s end end qs (set qs y []) [] [] m (lose_queue who broken c first b A apart why m.state end qs y m.holds is))
+      let m = turn_to who broken c first b A apart y s far None qs none h in
+      went_quietly who broken c first b (Visiting c y) A T s end (set qs y []) w t (moved_visiting who broken c first b y A A s end end qs (set qs y []) [] [] m (lose_queue who broken c first b A apart why m.state end qs y m.holds is))
 
   -- what waits for a node is dropped
   pub dropped : broken → (T : Far → Type 0) (qs : List (List Msg)) (y : ℕ) (old new : Option (List ℕ)) → IsNode y → Went who broken (Visiting c y) A T c first s qs old new → Went who broken (Visiting c y) A T c first s (set qs y []) old new
   dropped why T qs y old new is w =
-      went_on who broken c first b (Visiting c y) (Visiting c y) (Visiting c y) A A T T s qs (set qs y []) old new new (visiting_joins c y) w (went_visiting who broken c first b y A T w.moved.state w.far (set qs y []) new w.told (lose_queue who broken c first b A apart why w.moved.state w.far qs y w.moved.holds is))
+      went_on who broken c first b (Visiting c y) (Visiting c y) (Visiting c y) A A T T s qs (set qs y []) old new new (visiting_joins c y) w (went_quietly who broken c first b (Visiting c y) A T w.moved.state w.far (set qs y []) new w.told (lose_queue who broken c first b A apart why w.moved.state w.far qs y w.moved.holds is))

@@ -57,6 +57,20 @@ IsBroken faults faults_now endings endings_now = Rose faults faults_now ⊎ Rose
 abbrev pub AreLater : ℕ → ℕ → ℕ → ℕ → Type 0
 AreLater faults faults_now endings endings_now = (faults ≤ faults_now) × (endings ≤ endings_now)
 
+-- the counts of the nodes before and now: how often a call of them failed, and how often one was found to have ended
+pub record CallCounts : Type 0 where
+  pub faults : ℕ
+  pub faults_now : ℕ
+  pub endings : ℕ
+  pub endings_now : ℕ
+
+abbrev pub counted : ℕ → ℕ → ℕ → ℕ → CallCounts
+counted faults faults_now endings endings_now = record { faults = faults; faults_now = faults_now; endings = endings; endings_now = endings_now }
+
+-- by these counts a call of the nodes failed, or a node was found to have ended
+abbrev pub HasBroken : CallCounts → Type 0
+HasBroken k = IsBroken k.faults k.faults_now k.endings k.endings_now
+
 -- a message to a node is lost only where that is broken, and an answer only where the actor doesn't take it
 abbrev pub MayLose : Type 0 → (Msg → Bool) → Option Msg → Type 0
 MayLose broken takes None = ⊥

@@ -7,6 +7,7 @@ pub mod Input
 pub mod Lines
 pub mod Listening
 pub mod News
+pub mod Onward
 pub mod Output
 pub mod Pace
 pub mod Queued

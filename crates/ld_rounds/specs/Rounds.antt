@@ -20,7 +20,9 @@ use Rattle.ld_rounds.specs.declared.ended.Ended.TheVariants as ends
 use Rattle.ld_rounds.specs.Ends.{tells_by, is_final}
 use Rattle.ld_rounds.specs.Input.{Input, ComesTo}
 use Rattle.ld_rounds.specs.Queued.{queue_of}
-use Rattle.ld_rounds.specs.News.{AreNews, some_wait}
+use Rattle.ld_rounds.specs.News.{AreNews, is_answer, waits_for, some_wait}
+use Rattle.ld_rounds.specs.Telling.{is_of}
+use Rattle.ld_rounds.specs.Drives.{AreLater, CallCounts, counted, HasBroken}
 use Rattle.ld_rounds.specs.Requests.{request_event, is_waiting, IsRequestBy}
 use Rattle.ld_rounds.specs.declared.request.Request.{Request}
 use Rattle.ld_rounds.specs.declared.request.Request.TheVariants as asks
@@ -35,6 +37,14 @@ pub record Splits (P Q : State → List Event → Type 0) (c : Config) (s : Stat
   pub came : P s front
   pub goes : Q (state_after c s front) rest
 
+-- so, and of the counts of the nodes the first part has those up to some, and the others those from there on
+pub record Chains (P Q : CallCounts → State → List Event → Type 0) (c : Config) (counts : CallCounts) (s : State) (es : List Event) : Type 0 where
+  pub faults : ℕ
+  pub endings : ℕ
+  pub since : AreLater counts.faults faults counts.endings endings
+  pub until : AreLater faults counts.faults_now endings counts.endings_now
+  pub parts : Splits (P (counted counts.faults faults counts.endings endings)) (Q (counted faults counts.faults_now endings counts.endings_now)) c s es
+
 -- this event alone
 abbrev pub IsOne : Event → State → List Event → Type 0
 IsOne e s es = es ≡ e ∷ []
@@ -44,15 +54,6 @@ abbrev pub IsBegun : Event → State → List Event → Type 0
 IsBegun e s es = (es ≡ []) ⊎ (es ≡ e ∷ [])
 
 -- ---- visits ----
-
-abbrev pub is_quiet : Event → Bool
-is_quiet (events.Deliver i) = true
-is_quiet (events.Lose i) = true
-is_quiet _ = false
-
--- messages are delivered and lost, and no actor does anything by itself
-abbrev pub Quiet : State → List Event → Type 0
-Quiet s es = AllByRecursion (λ e. is_quiet e ≡ true) es
 
 -- the answer of a place is delivered
 pub record IsDelivered (m : Msg) (s : State) (es : List Event) : Type 0 where
@@ -101,40 +102,73 @@ AreCalm c o s (e ∷ es) = IsCalm o e × AreCalm c (waiting s e o) (step c s e).
 abbrev pub Calm : Config → State → List Event → Type 0
 Calm c s es = AreCalm c None s es
 
--- however it ends
-abbrev pub CalmEnd : Config → Ended → State → List Event → Type 0
-CalmEnd c ended = Calm c
+-- the message is to the node, or an answer of it
+abbrev pub Concerns : ℕ → Option Msg → Type 0
+Concerns y None = ⊥
+Concerns y (Some m) = (waits_for y m ≡ true) ⊎ (is_of y m.from ≡ true)
 
--- no other node is ticked
-abbrev pub ticks_only : ℕ → Event → Bool
-ticks_only y (events.Tick n l) = n == y
-ticks_only y _ = true
+-- a message to the node or an answer of it is delivered or lost, or the node is ticked
+abbrev pub IsAbout : ℕ → State → Event → Type 0
+IsAbout y s (events.Deliver i) = Concerns y (message s.network i)
+IsAbout y s (events.Lose i) = Concerns y (message s.network i)
+IsAbout y s (events.Tick n l) = n ≡ y
+IsAbout y s _ = ⊥
+
+abbrev pub AreAbout : ℕ → Config → State → List Event → Type 0
+AreAbout y c s [] = Unit {0}
+AreAbout y c s (e ∷ es) = IsAbout y s e × AreAbout y c (step c s e).state es
 
 -- the steps of a visit of a node
 abbrev pub Visiting : Config → ℕ → State → List Event → Type 0
-Visiting c y s es = Calm c s es × AllByRecursion (λ e. ticks_only y e ≡ true) es
+Visiting c y s es = Calm c s es × AreAbout y c s es
 
 abbrev pub VisitEnd : Config → ℕ → Ended → State → List Event → Type 0
 VisitEnd c y ended = Visiting c y
 
--- such steps to a state in which no message that is new from the first place on waits for the node, and no answer is to be taken
-pub record IsVisit (c : Config) (first y : ℕ) (s : State) (es : List Event) : Type 0 where
+-- a message that is no answer is lost only where that is broken
+abbrev pub IsLossBy : Type 0 → Option Msg → Type 0
+IsLossBy broken None = ⊥
+IsLossBy broken (Some m) = (is_answer m ≡ true) ⊎ broken
+
+abbrev pub LosesBy : Type 0 → State → Event → Type 0
+LosesBy broken s (events.Lose i) = IsLossBy broken (message s.network i)
+LosesBy broken s _ = Unit {0}
+
+abbrev pub LoseBy : Type 0 → Config → State → List Event → Type 0
+LoseBy broken c s [] = Unit {0}
+LoseBy broken c s (e ∷ es) = LosesBy broken s e × LoseBy broken c (step c s e).state es
+
+-- such steps, in which messages to the node are lost only where by these counts a call of the nodes failed or one was found to have ended
+pub record IsVisiting (c : Config) (y : ℕ) (counts : CallCounts) (s : State) (es : List Event) : Type 0 where
   pub steps : Visiting c y s es
+  pub few : LoseBy (HasBroken counts) c s es
+
+-- and that lead to a state in which no message that is new from the first place on waits for the node, and no answer is to be taken
+pub record IsVisit (c : Config) (first y : ℕ) (counts : CallCounts) (s : State) (es : List Event) : Type 0 where
+  pub visiting : IsVisiting c y counts s es
   pub queues : List (List Msg)
   pub news : AreNews first (state_after c s es).network queues []
   pub emptied : queue_of queues y ≡ []
 
--- the nodes are visited one after the other
-abbrev pub AreVisits : Config → ℕ → List ℕ → State → List Event → Type 0
-AreVisits c first [] s es = es ≡ []
-AreVisits c first (y ∷ ys) s es = Splits (IsVisit c first y) (AreVisits c first ys) c s es
+-- the nodes are visited one after the other, each with its own part of the counts
+abbrev pub AreVisits : Config → ℕ → List ℕ → CallCounts → State → List Event → Type 0
+AreVisits c first [] counts s es = es ≡ []
+AreVisits c first (y ∷ ys) counts s es = Chains (IsVisit c first y) (AreVisits c first ys) c counts s es
+
+-- so far: the first ones, and the next one in part
+abbrev pub ArePartVisits : Config → ℕ → List ℕ → CallCounts → State → List Event → Type 0
+ArePartVisits c first [] counts s es = es ≡ []
+ArePartVisits c first (y ∷ ys) counts s es = IsVisiting c y counts s es ⊎ Chains (IsVisit c first y) (ArePartVisits c first ys) c counts s es
+
+abbrev pub VisitsEnd : Config → ℕ → List ℕ → CallCounts → Ended → State → List Event → Type 0
+VisitsEnd c first ys counts ended = ArePartVisits c first ys counts
 
 -- ---- rounds ----
 
--- so many rounds, from the one of number 0 on
-abbrev pub AreRounds : (ℕ → State → List Event → Type 0) → Config → ℕ → State → List Event → Type 0
-AreRounds round c zero s es = es ≡ []
-AreRounds round c (suc n) s es = Splits (AreRounds round c n) (round n) c s es
+-- so many rounds, from the one of number 0 on, each with its own part of the counts
+abbrev pub AreRounds : (ℕ → CallCounts → State → List Event → Type 0) → Config → ℕ → CallCounts → State → List Event → Type 0
+AreRounds round c zero counts s es = es ≡ []
+AreRounds round c (suc n) counts s es = Chains (AreRounds round c n) (round n) c counts s es
 
 -- a reader polls before a round; one that is sparing doesn't where a message that is new from the first place on waits for one of the nodes
 abbrev pub polls : Bool → List ℕ → ℕ → List ℕ → State → List Event
@@ -144,12 +178,12 @@ abbrev pub IsPolled : Bool → List ℕ → ℕ → List ℕ → State → List 
 IsPolled sparing name first ys s es = es ≡ polls sparing name first ys s
 
 -- and then the nodes are visited
-abbrev pub IsReadRound : Bool → List ℕ → Config → ℕ → List ℕ → State → List Event → Type 0
-IsReadRound sparing name c first ys s es = Splits (IsPolled sparing name first ys) (AreVisits c first ys) c s es
+abbrev pub IsReadRound : Bool → List ℕ → Config → ℕ → List ℕ → CallCounts → State → List Event → Type 0
+IsReadRound sparing name c first ys counts s es = Splits (IsPolled sparing name first ys) (AreVisits c first ys counts) c s es
 
 -- so far
-abbrev pub IsReadPart : Bool → List ℕ → Config → ℕ → List ℕ → State → List Event → Type 0
-IsReadPart sparing name c first ys s es = (es ≡ []) ⊎ Splits (IsPolled sparing name first ys) (Calm c) c s es
+abbrev pub IsReadPart : Bool → List ℕ → Config → ℕ → List ℕ → CallCounts → State → List Event → Type 0
+IsReadPart sparing name c first ys counts s es = (es ≡ []) ⊎ Splits (IsPolled sparing name first ys) (ArePartVisits c first ys counts) c s es
 
 -- a sequencer sends again before each round but the first
 abbrev pub IsRetry : List ℕ → Bool → State → List Event → Type 0
@@ -222,19 +256,19 @@ abbrev pub IsPrepared : List ℕ → Config → Type 0 → Bool → State → Li
 IsPrepared name c dry is_first s es = Splits (IsRetry name is_first) (AreFilling name c dry) c s es
 
 -- and then the nodes are visited
-abbrev pub IsAppendRound : List ℕ → Config → Type 0 → ℕ → List ℕ → Bool → State → List Event → Type 0
-IsAppendRound name c dry first ys is_first s es = Splits (IsPrepared name c dry is_first) (AreVisits c first ys) c s es
+abbrev pub IsAppendRound : List ℕ → Config → Type 0 → ℕ → List ℕ → Bool → CallCounts → State → List Event → Type 0
+IsAppendRound name c dry first ys is_first counts s es = Splits (IsPrepared name c dry is_first) (AreVisits c first ys counts) c s es
 
 -- so far
-abbrev pub IsAppendPart : List ℕ → Config → Bool → State → List Event → Type 0
-IsAppendPart name c is_first s es = Splits (Splits (MayRetry name is_first) (AreRequests name c) c) (Calm c) c s es
+abbrev pub IsAppendPart : List ℕ → Config → ℕ → List ℕ → Bool → CallCounts → State → List Event → Type 0
+IsAppendPart name c first ys is_first counts s es = Splits (Splits (MayRetry name is_first) (AreRequests name c) c) (ArePartVisits c first ys counts) c s es
 
 -- so many; which ones no more was to be had in isn't told
-abbrev pub AreAppendRounds : List ℕ → Config → ℕ → List ℕ → ℕ → State → List Event → Type 0
-AreAppendRounds name c first ys n s es = AreRounds (λ k. IsAppendRound name c (Unit {0}) first ys (k == 0)) c n s es
+abbrev pub AreAppendRounds : List ℕ → Config → ℕ → List ℕ → ℕ → CallCounts → State → List Event → Type 0
+AreAppendRounds name c first ys n counts s es = AreRounds (λ k. IsAppendRound name c (Unit {0}) first ys (k == 0)) c n counts s es
 
-abbrev pub AreReadRounds : Bool → List ℕ → Config → ℕ → List ℕ → ℕ → State → List Event → Type 0
-AreReadRounds sparing name c first ys n s es = AreRounds (λ k. IsReadRound sparing name c first ys) c n s es
+abbrev pub AreReadRounds : Bool → List ℕ → Config → ℕ → List ℕ → ℕ → CallCounts → State → List Event → Type 0
+AreReadRounds sparing name c first ys n counts s es = AreRounds (λ k. IsReadRound sparing name c first ys) c n counts s es
 
 -- ---- requests ----
 
@@ -296,18 +330,18 @@ abbrev pub PreparesUntil : List ℕ → Config → Bool → Option Input → End
 PreparesUntil name c is_first old ended = Both (Splits (MayRetry name is_first) (AreRequests name c) c) (FeedsUntil c old ended)
 
 -- the same with visits
-abbrev pub Rounds : List ℕ → Config → Type 0 → ℕ → List ℕ → Bool → Option Input → Option Input → State → List Event → Type 0
-Rounds name c dry first ys is_first old new = Both (IsAppendRound name c dry first ys is_first) (Feeds c old new)
+abbrev pub Rounds : List ℕ → Config → Type 0 → ℕ → List ℕ → Bool → CallCounts → Option Input → Option Input → State → List Event → Type 0
+Rounds name c dry first ys is_first counts old new = Both (IsAppendRound name c dry first ys is_first counts) (Feeds c old new)
 
-abbrev pub RoundsUntil : List ℕ → Config → Bool → Option Input → Ended → State → List Event → Type 0
-RoundsUntil name c is_first old ended = Both (IsAppendPart name c is_first) (FeedsUntil c old ended)
+abbrev pub RoundsUntil : List ℕ → Config → ℕ → List ℕ → Bool → CallCounts → Option Input → Ended → State → List Event → Type 0
+RoundsUntil name c first ys is_first counts old ended = Both (IsAppendPart name c first ys is_first counts) (FeedsUntil c old ended)
 
 -- so many rounds of appends that end so, and after so many a part of one
-abbrev pub Appends : List ℕ → Config → ℕ → List ℕ → Option Input → Ended → ℕ → State → List Event → Type 0
-Appends name c first ys old ended n = Both (AreAppendRounds name c first ys n) (FeedsUntil c old ended)
+abbrev pub Appends : List ℕ → Config → ℕ → List ℕ → CallCounts → Option Input → Ended → ℕ → State → List Event → Type 0
+Appends name c first ys counts old ended n = Both (AreAppendRounds name c first ys n counts) (FeedsUntil c old ended)
 
-abbrev pub AppendsUntil : List ℕ → Config → ℕ → List ℕ → Option Input → Ended → ℕ → State → List Event → Type 0
-AppendsUntil name c first ys old ended n = Both (Splits (AreAppendRounds name c first ys n) (IsAppendPart name c (n == 0)) c) (FeedsUntil c old ended)
+abbrev pub AppendsUntil : List ℕ → Config → ℕ → List ℕ → CallCounts → Option Input → Ended → ℕ → State → List Event → Type 0
+AppendsUntil name c first ys counts old ended n = Both (Chains (AreAppendRounds name c first ys n) (IsAppendPart name c first ys (n == 0)) c counts) (FeedsUntil c old ended)
 
-abbrev pub ReadsUntil : Bool → List ℕ → Config → ℕ → List ℕ → ℕ → State → List Event → Type 0
-ReadsUntil sparing name c first ys n s es = Splits (AreReadRounds sparing name c first ys n) (IsReadPart sparing name c first ys) c s es
+abbrev pub ReadsUntil : Bool → List ℕ → Config → ℕ → List ℕ → ℕ → CallCounts → State → List Event → Type 0
+ReadsUntil sparing name c first ys n counts s es = Chains (AreReadRounds sparing name c first ys n) (IsReadPart sparing name c first ys) c counts s es

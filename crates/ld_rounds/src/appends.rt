@@ -12,7 +12,7 @@ ghost use Rattle.ld_wire.specs.declared.fault.WireFault.{WireFault as FrameFault
 ghost use Rattle.ld_dial.specs.Far.{Far};
 ghost use Rattle.ld_rounds.specs.Ends.{IsSaid, is_final, tells_by};
 ghost use Rattle.ld_rounds.specs.Acts.{IsActed, Own, driver};
-ghost use Rattle.ld_rounds.specs.Drives.{AreOfConfig, Holds, GoesOn, AllTaken, IsBroken, AreLater};
+ghost use Rattle.ld_rounds.specs.Drives.{AreOfConfig, Holds, GoesOn, AllTaken, IsBroken, AreLater, counted};
 ghost use Rattle.ld_rounds.specs.Requests.{request_event, settled_at, has_to_wait, is_waiting};
 ghost use Rattle.ld_rounds.specs.Rounds.{IsAsked, IsAsking, IsRetry, MayRetry, Adds, AddsUntil, Prepares, PreparesUntil, Rounds, RoundsUntil, IsDry, finds_full, finds_final, taken_of, tells_full};
 ghost use Rattle.ld_rounds.specs.Taking.{TookAppends};
@@ -48,6 +48,7 @@ pub trait Appends: Actor {
         name: &Name,
         request: &Request,
     ) -> Result<Appended, NoMemory>
+        requires named { name.now ≡ (Self.own self.old).name }
         ensures messages { IfOk result (λ appended. AreMessages appended.heard.sends) }
         ensures appended { IfOk result (λ appended. (c : Config) (s : State) → IsInBounds c → IsSound c s → Self.stands self.old c s
             → IsActed (Self.stands self.new c) s appended.heard.lines.items appended.heard.sends (happens c s (request_event name.now request.now))) }
@@ -61,6 +62,7 @@ pub trait Appends: Actor {
     /// have told all that they can, and tries its close again. It ends the drive where it says so in a line. After running out
     /// of memory it is of no use.
     fn retry(&mut self, alloc: Global, name: &Name) -> Result<Heard, NoMemory>
+        requires named { name.now ≡ (Self.own self.old).name }
         ensures messages { IfOk result (λ heard. AreMessages heard.sends) }
         ensures retried { IfOk result (λ heard. (c : Config) (s : State) → IsInBounds c → IsSound c s → Self.stands self.old c s
             → IsActed (Self.stands self.new c) s heard.lines.items heard.sends (happens c s (Retry name.now))) }
@@ -73,8 +75,8 @@ pub trait Appends: Actor {
     fn is_settled(&self) -> bool
         ensures { result ≡ settled self.now };
 
-    /// Where it is so the sequencer of any name has settled too, in each state that it represents its part of.
-    ghost settled_there: { (actor : Self) (c : Config) (s : State) (name : List ℕ) → Self.Actor.stands actor c s → settled actor ≡ true → settled_at name s ≡ true };
+    /// Where it is so the sequencer of its name has settled too, in each state that it represents its part of.
+    ghost settled_there: { (actor : Self) (c : Config) (s : State) → Self.Actor.stands actor c s → settled actor ≡ true → settled_at (Self.Actor.own actor).name s ≡ true };
 }
 
 /// Whether the request is a trim that has to wait: some append isn't acknowledged, or some epoch before the sequencer's own
@@ -98,7 +100,8 @@ fn add<A: Appends, O: Sink>(
     queues: &mut Queues,
     out: &mut O,
 ) -> Result<bool, Ended>
-    requires { has_to_wait request.now (A.settled sequencer.old) ≡ false }
+    requires named { name.now ≡ (A.own sequencer.old).name }
+    requires now { has_to_wait request.now (A.settled sequencer.old) ≡ false }
     ensures held { (own : Own) (c : Config) (first : ℕ) (s : State) (far : Far) → IsInBounds c → Holds (A.stands sequencer.old) c first s far queues.old
         → GoesOn (driver name.now own) ⊥ (λ t es. IsAsked name.now request.now t es × IfOk result (λ full. (taken_of c t es ≡ (if full then [] else request.now ∷ [])) × (full ≡ finds_full c t (request_event name.now request.now)) × (finds_final c t (request_event name.now request.now) ≡ false))) (λ e. IsAsking name.now request.now) (A.stands sequencer.new) (λ now. now ≡ far) c first s queues.new (Some (O.written out.old)) (Some (O.written out.new)) result }
     ensures itself { A.own sequencer.new ≡ A.own sequencer.old }
@@ -123,6 +126,7 @@ fn again<A: Appends, O: Sink>(
     queues: &mut Queues,
     out: &mut O,
 ) -> Result<(), Ended>
+    requires named { name.now ≡ (A.own sequencer.old).name }
     ensures held { (own : Own) (c : Config) (first : ℕ) (s : State) (far : Far) → IsInBounds c → Holds (A.stands sequencer.old) c first s far queues.old
         → GoesOn (driver name.now own) ⊥ (IsRetry name.now false) (λ e. MayRetry name.now false) (A.stands sequencer.new) (λ now. now ≡ far) c first s queues.new (Some (O.written out.old)) (Some (O.written out.new)) result }
     ensures itself { A.own sequencer.new ≡ A.own sequencer.old }
@@ -227,6 +231,7 @@ fn add_all<A: Appends, P: Payloads, O: Sink>(
     queues: &mut Queues,
     out: &mut O,
 ) -> Result<(), Ended>
+    requires named { name.now ≡ (A.own sequencer.old).name }
     ensures held { (own : Own) (c : Config) (first : ℕ) (s : State) (far : Far) → IsInBounds c → Holds (A.stands sequencer.old) c first s far queues.old
         → GoesOn (driver name.now own) ⊥ (Adds name.now c (IsDry feed.new.is_over (P.ready input.new) feed.new.held (A.settled sequencer.new)) (upcoming feed.old.held (P.coming input.old)) (upcoming feed.new.held (P.coming input.new))) (AddsUntil name.now c (upcoming feed.old.held (P.coming input.old))) (A.stands sequencer.new) (λ now. now ≡ far) c first s queues.new (Some (O.written out.old)) (Some (O.written out.new)) result }
     ensures over { (origin : Option Input) → SameBehind origin (upcoming feed.old.held (P.coming input.old)) → WasOver origin feed.old.is_over (upcoming feed.old.held (P.coming input.old)) → WasOver origin feed.new.is_over (upcoming feed.new.held (P.coming input.new)) }
@@ -274,6 +279,7 @@ fn add_first<A: Appends, P: Payloads, O: Sink>(
     queues: &mut Queues,
     out: &mut O,
 ) -> Result<(), Ended>
+    requires named { name.now ≡ (A.own sequencer.old).name }
     ensures held { (own : Own) (c : Config) (first : ℕ) (s : State) (far : Far) → IsInBounds c → Holds (A.stands sequencer.old) c first s far queues.old
         → GoesOn (driver name.now own) ⊥ (Adds name.now c (IsDry feed.new.is_over (P.ready input.new) feed.new.held (A.settled sequencer.new)) (upcoming feed.old.held (P.coming input.old)) (upcoming feed.new.held (P.coming input.new))) (AddsUntil name.now c (upcoming feed.old.held (P.coming input.old))) (A.stands sequencer.new) (λ now. now ≡ far) c first s queues.new (Some (O.written out.old)) (Some (O.written out.new)) result }
     ensures over { (origin : Option Input) → SameBehind origin (upcoming feed.old.held (P.coming input.old)) → WasOver origin feed.old.is_over (upcoming feed.old.held (P.coming input.old)) → WasOver origin feed.new.is_over (upcoming feed.new.held (P.coming input.new)) }
@@ -302,6 +308,7 @@ fn prepare<A: Appends, P: Payloads, O: Sink>(
     queues: &mut Queues,
     out: &mut O,
 ) -> Result<(), Ended>
+    requires named { name.now ≡ (A.own sequencer.old).name }
     ensures held { (own : Own) (c : Config) (first : ℕ) (s : State) (far : Far) → IsInBounds c → Holds (A.stands sequencer.old) c first s far queues.old
         → GoesOn (driver name.now own) ⊥ (Prepares name.now c (IsDry feed.new.is_over (P.ready input.new) feed.new.held (A.settled sequencer.new)) is_first (upcoming feed.old.held (P.coming input.old)) (upcoming feed.new.held (P.coming input.new))) (PreparesUntil name.now c is_first (upcoming feed.old.held (P.coming input.old))) (A.stands sequencer.new) (λ now. now ≡ far) c first s queues.new (Some (O.written out.old)) (Some (O.written out.new)) result }
     ensures over { (origin : Option Input) → SameBehind origin (upcoming feed.old.held (P.coming input.old)) → WasOver origin feed.old.is_over (upcoming feed.old.held (P.coming input.old)) → WasOver origin feed.new.is_over (upcoming feed.new.held (P.coming input.new)) }
@@ -335,9 +342,10 @@ fn append_round<A: Appends, N: Nodes, P: Payloads, O: Sink>(
     queues: &mut Queues,
     out: &mut O,
 ) -> Result<(), Ended>
+    requires named { name.now ≡ (A.own sequencer.old).name }
     ensures held { (own : Own) → A.own sequencer.old ≡ own → (c : Config) (first : ℕ) (s : State) (far : Far) → IsInBounds c → AreOfConfig c (members set.now)
         → AllTaken (N.tells nodes.old c) far → Holds (A.stands sequencer.old) c first s far queues.old
-        → (N.silent nodes.new ≡ true) ⊎ GoesOn (driver name.now own) (IsBroken (N.faults nodes.old) (N.faults nodes.new) (N.endings nodes.old) (N.endings nodes.new)) (Rounds name.now c (IsDry feed.new.is_over (P.ready input.new) feed.new.held false) first (members set.now) is_first (upcoming feed.old.held (P.coming input.old)) (upcoming feed.new.held (P.coming input.new))) (RoundsUntil name.now c is_first (upcoming feed.old.held (P.coming input.old))) (A.stands sequencer.new) (AllTaken (N.tells nodes.new c)) c first s queues.new (Some (O.written out.old)) (Some (O.written out.new)) result }
+        → (N.silent nodes.new ≡ true) ⊎ GoesOn (driver name.now own) (IsBroken (N.faults nodes.old) (N.faults nodes.new) (N.endings nodes.old) (N.endings nodes.new)) (Rounds name.now c (IsDry feed.new.is_over (P.ready input.new) feed.new.held false) first (members set.now) is_first (counted (N.faults nodes.old) (N.faults nodes.new) (N.endings nodes.old) (N.endings nodes.new)) (upcoming feed.old.held (P.coming input.old)) (upcoming feed.new.held (P.coming input.new))) (RoundsUntil name.now c first (members set.now) is_first (counted (N.faults nodes.old) (N.faults nodes.new) (N.endings nodes.old) (N.endings nodes.new)) (upcoming feed.old.held (P.coming input.old))) (A.stands sequencer.new) (AllTaken (N.tells nodes.new c)) c first s queues.new (Some (O.written out.old)) (Some (O.written out.new)) result }
     ensures silent { N.silent nodes.old ≡ true → N.silent nodes.new ≡ true }
     ensures over { (origin : Option Input) → SameBehind origin (upcoming feed.old.held (P.coming input.old)) → WasOver origin feed.old.is_over (upcoming feed.old.held (P.coming input.old)) → WasOver origin feed.new.is_over (upcoming feed.new.held (P.coming input.new)) }
     ensures behind { OnOk result (SameBehind (upcoming feed.old.held (P.coming input.old)) (upcoming feed.new.held (P.coming input.new))) }
@@ -421,9 +429,10 @@ fn turn<A: Appends, N: Nodes, P: Payloads, O: Sink>(
     queues: &mut Queues,
     out: &mut O,
 ) -> Result<bool, Ended>
+    requires named { name.now ≡ (A.own sequencer.old).name }
     ensures held { (own : Own) → A.own sequencer.old ≡ own → (c : Config) (first : ℕ) (s : State) (far : Far) → IsInBounds c → AreOfConfig c (members set.now)
         → AllTaken (N.tells nodes.old c) far → Holds (A.stands sequencer.old) c first s far queues.old
-        → (N.silent nodes.new ≡ true) ⊎ GoesOn (driver name.now own) (IsBroken (N.faults nodes.old) (N.faults nodes.new) (N.endings nodes.old) (N.endings nodes.new)) (Rounds name.now c (Unit {0}) first (members set.now) is_first (upcoming feed.old.held (P.coming input.old)) (upcoming feed.new.held (P.coming input.new))) (RoundsUntil name.now c is_first (upcoming feed.old.held (P.coming input.old))) (A.stands sequencer.new) (AllTaken (N.tells nodes.new c)) c first s queues.new (Some (O.written out.old)) (Some (O.written out.new)) result }
+        → (N.silent nodes.new ≡ true) ⊎ GoesOn (driver name.now own) (IsBroken (N.faults nodes.old) (N.faults nodes.new) (N.endings nodes.old) (N.endings nodes.new)) (Rounds name.now c (Unit {0}) first (members set.now) is_first (counted (N.faults nodes.old) (N.faults nodes.new) (N.endings nodes.old) (N.endings nodes.new)) (upcoming feed.old.held (P.coming input.old)) (upcoming feed.new.held (P.coming input.new))) (RoundsUntil name.now c first (members set.now) is_first (counted (N.faults nodes.old) (N.faults nodes.new) (N.endings nodes.old) (N.endings nodes.new)) (upcoming feed.old.held (P.coming input.old))) (A.stands sequencer.new) (AllTaken (N.tells nodes.new c)) c first s queues.new (Some (O.written out.old)) (Some (O.written out.new)) result }
     ensures done { IfOk result (λ done. done ≡ (A.settled sequencer.new && (are_empty queues.new && feed.new.is_over))) }
     ensures asked { OnOk result ((A.settled sequencer.new && are_empty queues.new) ≡ true → feed.new.held ≡ None → feed.new.is_over ≡ true) }
     ensures silent { N.silent nodes.old ≡ true → N.silent nodes.new ≡ true }
@@ -468,16 +477,18 @@ pub fn append<A: Appends, N: Nodes, P: Payloads, O: Sink>(
     queues: &mut Queues,
     out: &mut O,
 ) -> Result<bool, Ended>
+    requires named { name.now ≡ (A.own sequencer.old).name }
     // Where the nodes tell what stands there: all that was done are steps of the written machine from any state that the drive
     // represents, round by round: it sends again, but not in the first, requests are made, and the set's nodes are visited
     // one after the other. A trim is made only where the sequencer has every append acknowledged and every epoch before its own
     // closed. The requests that the machine took are the first ones that came, in their order; they are all where it is done,
-    // and where it comes to a line with a syntax error. The lines that were written are the sequencer's lines of those steps. A
-    // message to a node is lost only where a call of the nodes failed or a node had ended, and an answer only where the
-    // sequencer doesn't take it; it never ends with `BadFrame`.
+    // and where it comes to a line with a syntax error. The lines that were written are the sequencer's lines of those steps.
+    // Each message that is delivered or lost in a visit is to its node or an answer of it. A message to a node is lost only in
+    // a visit of it in which a call of the nodes failed or a node had ended: what failed in one visit allows no loss in
+    // another. An answer is lost only where the sequencer doesn't take it; it never ends with `BadFrame`.
     ensures held { (c : Config) (first : ℕ) (s : State) (far : Far) → IsInBounds c → AreOfConfig c (members set.now)
         → AllTaken (N.tells nodes.old c) far → Holds (A.stands sequencer.old) c first s far queues.old
-        → (N.silent nodes.new ≡ true) ⊎ TookAppends (driver name.now (A.own sequencer.old)) (IsBroken (N.faults nodes.old) (N.faults nodes.new) (N.endings nodes.old) (N.endings nodes.new)) (members set.now) (P.coming input.old) rounds (A.stands sequencer.new) (AllTaken (N.tells nodes.new c)) c first s queues.new (Some (O.written out.old)) (Some (O.written out.new)) result }
+        → (N.silent nodes.new ≡ true) ⊎ TookAppends (driver name.now (A.own sequencer.old)) (counted (N.faults nodes.old) (N.faults nodes.new) (N.endings nodes.old) (N.endings nodes.new)) (members set.now) (P.coming input.old) rounds (A.stands sequencer.new) (AllTaken (N.tells nodes.new c)) c first s queues.new (Some (O.written out.old)) (Some (O.written out.new)) result }
     ensures settled { IfOk result (λ done. done ≡ true → (A.settled sequencer.new ≡ true) × (are_empty queues.new ≡ true)) }
     // Where all rounds were taken and all but the input is done, the input held a request.
     ensures undone { IfOk result (λ done. 0 < rounds → done ≡ false → (A.settled sequencer.new && are_empty queues.new) ≡ true → HasCome (P.coming input.old)) }

@@ -12,7 +12,7 @@ ghost use Rattle.ld_wire.specs.declared.fault.WireFault.{WireFault as FrameFault
 ghost use Rattle.ld_dial.specs.Far.{Far};
 ghost use Rattle.ld_rounds.specs.Ends.{IsSaid};
 ghost use Rattle.ld_rounds.specs.Acts.{IsActed, Own, driver};
-ghost use Rattle.ld_rounds.specs.Drives.{AreOfConfig, Holds, GoesOn, AllTaken, IsBroken, AreLater};
+ghost use Rattle.ld_rounds.specs.Drives.{AreOfConfig, Holds, GoesOn, AllTaken, IsBroken, AreLater, counted};
 ghost use Rattle.ld_rounds.specs.Rounds.{IsOne, IsBegun, IsPolled, IsReadRound, IsReadPart};
 ghost use Rattle.ld_rounds.specs.Taking.{TookReads};
 ghost use Rattle.ld_rounds.specs.Endings.{IsEnding, IsLater, IsOffAs, EndsOff};
@@ -112,7 +112,7 @@ fn read_round<R: Reads, N: Nodes, O: Sink>(
 ) -> Result<(), Ended>
     ensures held { (own : Own) → R.own reader.old ≡ own → (c : Config) (first : ℕ) (s : State) (far : Far) → IsInBounds c → AreOfConfig c (members set.now)
         → AllTaken (N.tells nodes.old c) far → Holds (R.stands reader.old) c first s far queues.old
-        → (N.silent nodes.new ≡ true) ⊎ GoesOn (driver name.now own) (IsBroken (N.faults nodes.old) (N.faults nodes.new) (N.endings nodes.old) (N.endings nodes.new)) (IsReadRound is_sparing name.now c first (members set.now)) (λ e. IsReadPart is_sparing name.now c first (members set.now)) (R.stands reader.new) (AllTaken (N.tells nodes.new c)) c first s queues.new (Some (O.written out.old)) (Some (O.written out.new)) result }
+        → (N.silent nodes.new ≡ true) ⊎ GoesOn (driver name.now own) (IsBroken (N.faults nodes.old) (N.faults nodes.new) (N.endings nodes.old) (N.endings nodes.new)) (IsReadRound is_sparing name.now c first (members set.now) (counted (N.faults nodes.old) (N.faults nodes.new) (N.endings nodes.old) (N.endings nodes.new))) (λ e. IsReadPart is_sparing name.now c first (members set.now) (counted (N.faults nodes.old) (N.faults nodes.new) (N.endings nodes.old) (N.endings nodes.new))) (R.stands reader.new) (AllTaken (N.tells nodes.new c)) c first s queues.new (Some (O.written out.old)) (Some (O.written out.new)) result }
     ensures silent { N.silent nodes.old ≡ true → N.silent nodes.new ≡ true }
     ensures itself { R.own reader.new ≡ R.own reader.old }
     ensures since { R.since reader.old reader.new }
@@ -140,7 +140,7 @@ fn read_turn<R: Reads, N: Nodes, O: Sink>(
 ) -> Result<(), Ended>
     ensures held { (own : Own) → R.own reader.old ≡ own → (c : Config) (first : ℕ) (s : State) (far : Far) → IsInBounds c → AreOfConfig c (members set.now)
         → AllTaken (N.tells nodes.old c) far → Holds (R.stands reader.old) c first s far queues.old
-        → (N.silent nodes.new ≡ true) ⊎ GoesOn (driver name.now own) (IsBroken (N.faults nodes.old) (N.faults nodes.new) (N.endings nodes.old) (N.endings nodes.new)) (IsReadRound is_sparing name.now c first (members set.now)) (λ e. IsReadPart is_sparing name.now c first (members set.now)) (R.stands reader.new) (AllTaken (N.tells nodes.new c)) c first s queues.new (Some (O.written out.old)) (Some (O.written out.new)) result }
+        → (N.silent nodes.new ≡ true) ⊎ GoesOn (driver name.now own) (IsBroken (N.faults nodes.old) (N.faults nodes.new) (N.endings nodes.old) (N.endings nodes.new)) (IsReadRound is_sparing name.now c first (members set.now) (counted (N.faults nodes.old) (N.faults nodes.new) (N.endings nodes.old) (N.endings nodes.new))) (λ e. IsReadPart is_sparing name.now c first (members set.now) (counted (N.faults nodes.old) (N.faults nodes.new) (N.endings nodes.old) (N.endings nodes.new))) (R.stands reader.new) (AllTaken (N.tells nodes.new c)) c first s queues.new (Some (O.written out.old)) (Some (O.written out.new)) result }
     ensures silent { N.silent nodes.old ≡ true → N.silent nodes.new ≡ true }
     ensures itself { R.own reader.new ≡ R.own reader.old }
     ensures since { R.since reader.old reader.new }
@@ -180,12 +180,14 @@ pub fn read<R: Reads, N: Nodes, O: Sink>(
     // Where the nodes tell what stands there: all that was done are steps of the written machine from any state that the
     // drive represents, round by round: it polls, but one that is sparing just where no message that is new from the first
     // place on waits for a node of the set, and the set's nodes are visited one after the other. The lines that were written
-    // are the reader's lines of those steps. A message to a node is lost only where a call of the nodes failed or a node had
-    // ended, and an answer only where the reader doesn't take it. In its visit a node may be ticked, right behind an answer by
-    // which it tells the reader to wait, where the reader tells nodes of a log's closed epochs; it never ends with `BadFrame`.
+    // are the reader's lines of those steps. Each message that is delivered or lost in a visit is to its node or an answer of
+    // it. A message to a node is lost only in a visit of it in which a call of the nodes failed or a node had ended: what
+    // failed in one visit allows no loss in another. An answer is lost only where the reader doesn't take it. In its visit a
+    // node may be ticked, right behind an answer by which it tells the reader to wait, where the reader tells nodes of a log's
+    // closed epochs; it never ends with `BadFrame`.
     ensures held { (c : Config) (first : ℕ) (s : State) (far : Far) → IsInBounds c → AreOfConfig c (members set.now)
         → AllTaken (N.tells nodes.old c) far → Holds (R.stands reader.old) c first s far queues.old
-        → (N.silent nodes.new ≡ true) ⊎ TookReads is_sparing (driver name.now (R.own reader.old)) (IsBroken (N.faults nodes.old) (N.faults nodes.new) (N.endings nodes.old) (N.endings nodes.new)) (members set.now) rounds (R.stands reader.new) (AllTaken (N.tells nodes.new c)) c first s queues.new (Some (O.written out.old)) (Some (O.written out.new)) result }
+        → (N.silent nodes.new ≡ true) ⊎ TookReads is_sparing (driver name.now (R.own reader.old)) (counted (N.faults nodes.old) (N.faults nodes.new) (N.endings nodes.old) (N.endings nodes.new)) (members set.now) rounds (R.stands reader.new) (AllTaken (N.tells nodes.new c)) c first s queues.new (Some (O.written out.old)) (Some (O.written out.new)) result }
     ensures finished { IfOk result (λ done. done ≡ true → R.finished reader.new name.now ≡ true) }
     ensures unfinished { IfOk result (λ done. 0 < rounds → done ≡ false → R.finished reader.new name.now ≡ false) }
     ensures itself { R.own reader.new ≡ R.own reader.old }

@@ -14,8 +14,8 @@ ghost use Rattle.ld_dial.specs.Far.{Far, KeepsFrame};
 ghost use Rattle.ld_rounds.specs.Queued.{queue_of, TakesUpTo};
 ghost use Rattle.ld_rounds.specs.Telling.{HasTold, IsTelling, is_of, is_answered, missed_by};
 ghost use Rattle.ld_rounds.specs.Listening.{Writes, is_cut, listens_on, end_then, ends_by, still_due, unsent_by, due_with, due_of};
-ghost use Rattle.ld_rounds.specs.Drives.{Driver, AreOfConfig, Holds, GoesOn, AllTaken, WithNode, Answering, IsBroken, AreLater};
-ghost use Rattle.ld_rounds.specs.Rounds.{IsDelivered, IsReminded, RemindEnd, CalmEnd, Visiting, VisitEnd, IsVisit, AreVisits};
+ghost use Rattle.ld_rounds.specs.Drives.{Driver, AreOfConfig, Holds, GoesOn, AllTaken, WithNode, Answering, IsBroken, AreLater, counted};
+ghost use Rattle.ld_rounds.specs.Rounds.{IsDelivered, IsReminded, RemindEnd, Visiting, VisitEnd, IsVisiting, IsVisit, AreVisits, VisitsEnd};
 ghost use Rattle.ld_rounds.specs.Acts.{IsDriverOf};
 ghost use Rattle.ld_rounds.specs.Ends.{IsSaid};
 ghost use Rattle.ld_rounds.specs.Endings.{IsEnding, IsLater, IsOffAs, EndsOff};
@@ -152,7 +152,7 @@ fn take<A: Actor, O: Sink>(
     requires message { IsMessage answer.now }
     requires hears { A.hears actor.old answer.now }
     ensures held { (who : Driver) (y : ℕ) (c : Config) (first : ℕ) (s : State) (far : Far) (rest : List Message) → IsInBounds c
-        → who.takes s answer.now ≡ true → far.answers ≡ answer.now ∷ rest → Holds (A.stands actor.old) c first s far queues.old
+        → is_of y answer.now.from ≡ true → who.takes s answer.now ≡ true → far.answers ≡ answer.now ∷ rest → Holds (A.stands actor.old) c first s far queues.old
         → GoesOn who ⊥ (IsDelivered answer.now) (VisitEnd c y) (A.stands actor.new) (λ now. now ≡ record far { answers = rest }) c first s queues.new (Some (O.written out.old)) (Some (O.written out.new)) result }
     ensures itself { A.own actor.new ≡ A.own actor.old }
     ensures since { A.since actor.old actor.new }
@@ -427,13 +427,14 @@ pub fn visit<A: Actor, N: Nodes, O: Sink>(
     out: &mut O,
 ) -> Result<(), Ended>
     // Where the nodes tell what stands there: what was delivered, heard and lost are steps of the written machine from any
-    // state that the drive represents, and the lines that were written are the actor's lines of those steps. A message to a
-    // node is lost only where a call of the nodes failed or a node had ended, and an answer only where the actor doesn't
-    // take it. Right behind an answer by which it tells its actor to wait the node may be ticked, where the actor tells nodes
-    // of a log's closed epochs. Where it goes on nothing waits for the node, and no answer is to be taken.
+    // state that the drive represents, and the lines that were written are the actor's lines of those steps. Each message
+    // that was delivered or lost is to this node or an answer of it. A message to it is lost only where a call of the nodes
+    // failed or a node had ended in this visit, and an answer only where the actor doesn't take it. Right behind an answer by
+    // which it tells its actor to wait the node may be ticked, where the actor tells nodes of a log's closed epochs. Where it
+    // goes on nothing waits for the node, and no answer is to be taken.
     ensures held { (who : Driver) → IsDriverOf who (A.own actor.old) → (c : Config) (first : ℕ) (s : State) (far : Far) → IsInBounds c → has_node c node ≡ true
         → AllTaken (N.tells nodes.old c) far → Holds (A.stands actor.old) c first s far queues.old
-        → (N.silent nodes.new ≡ true) ⊎ GoesOn who (IsBroken (N.faults nodes.old) (N.faults nodes.new) (N.endings nodes.old) (N.endings nodes.new)) (IsVisit c first node) (VisitEnd c node) (A.stands actor.new) (AllTaken (N.tells nodes.new c)) c first s queues.new (Some (O.written out.old)) (Some (O.written out.new)) result }
+        → (N.silent nodes.new ≡ true) ⊎ GoesOn who (IsBroken (N.faults nodes.old) (N.faults nodes.new) (N.endings nodes.old) (N.endings nodes.new)) (IsVisit c first node (counted (N.faults nodes.old) (N.faults nodes.new) (N.endings nodes.old) (N.endings nodes.new))) (λ e. IsVisiting c node (counted (N.faults nodes.old) (N.faults nodes.new) (N.endings nodes.old) (N.endings nodes.new))) (A.stands actor.new) (AllTaken (N.tells nodes.new c)) c first s queues.new (Some (O.written out.old)) (Some (O.written out.new)) result }
     ensures silent { N.silent nodes.old ≡ true → N.silent nodes.new ≡ true }
     ensures itself { A.own actor.new ≡ A.own actor.old }
     ensures since { A.since actor.old actor.new }
@@ -478,13 +479,14 @@ pub fn round<A: Actor, N: Nodes, O: Sink>(
     out: &mut O,
 ) -> Result<(), Ended>
     // Where the nodes tell what stands there: what was delivered, heard and lost are steps of the written machine from any
-    // state that the drive represents, and the lines that were written are the actor's lines of those steps. A message to a
-    // node is lost only where a call of the nodes failed or a node had ended, and an answer only where the actor doesn't
-    // take it. Where it goes on they are visits of the set's nodes, one after the other: each leads to a state in which
-    // nothing waits for its node, and no answer is to be taken.
+    // state that the drive represents, and the lines that were written are the actor's lines of those steps. They are visits
+    // of the set's nodes, one after the other, the last one in part where it ends. Each message that was delivered or lost in
+    // a visit is to its node or an answer of it. A message to a node is lost only in a visit of it in which a call of the nodes
+    // failed or a node had ended, and an answer only where the actor doesn't take it. Each whole visit leads to a state in
+    // which nothing waits for its node, and no answer is to be taken.
     ensures held { (who : Driver) → IsDriverOf who (A.own actor.old) → (c : Config) (first : ℕ) (s : State) (far : Far) → IsInBounds c → AreOfConfig c (members set.now)
         → AllTaken (N.tells nodes.old c) far → Holds (A.stands actor.old) c first s far queues.old
-        → (N.silent nodes.new ≡ true) ⊎ GoesOn who (IsBroken (N.faults nodes.old) (N.faults nodes.new) (N.endings nodes.old) (N.endings nodes.new)) (AreVisits c first (members set.now)) (CalmEnd c) (A.stands actor.new) (AllTaken (N.tells nodes.new c)) c first s queues.new (Some (O.written out.old)) (Some (O.written out.new)) result }
+        → (N.silent nodes.new ≡ true) ⊎ GoesOn who (IsBroken (N.faults nodes.old) (N.faults nodes.new) (N.endings nodes.old) (N.endings nodes.new)) (AreVisits c first (members set.now) (counted (N.faults nodes.old) (N.faults nodes.new) (N.endings nodes.old) (N.endings nodes.new))) (VisitsEnd c first (members set.now) (counted (N.faults nodes.old) (N.faults nodes.new) (N.endings nodes.old) (N.endings nodes.new))) (A.stands actor.new) (AllTaken (N.tells nodes.new c)) c first s queues.new (Some (O.written out.old)) (Some (O.written out.new)) result }
     ensures silent { N.silent nodes.old ≡ true → N.silent nodes.new ≡ true }
     ensures itself { A.own actor.new ≡ A.own actor.old }
     ensures since { A.since actor.old actor.new }

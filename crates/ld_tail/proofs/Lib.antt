@@ -1,3 +1,4 @@
 mod Clients
 mod Looked
+pub mod Onward
 mod Tailing

@@ -33,7 +33,7 @@ use Rattle.ld_rounds.specs.Queued.{no_queues}
 use Rattle.ld_rounds.specs.News.{AreNews}
 use Rattle.ld_rounds.specs.Acts.{IsActed}
 use Rattle.ld_rounds.specs.Telling.{HasTold, IsTelling}
-use Rattle.ld_rounds.specs.Drives.{Driver, IsDriven, AllTaken, Holds, Went, Stopped, Stops, GoesOn}
+use Rattle.ld_rounds.specs.Drives.{Driver, IsDriven, AllTaken, Holds, Went, Stopped, Stops, GoesOn, CallCounts, HasBroken}
 use Rattle.ld_rounds.specs.Rounds.{IsOne, IsBegun, AreReadRounds, ReadsUntil}
 use Rattle.ld_rounds.specs.Taking.{TookReads}
 use Rattle.ld_rounds.specs.Reaching.{Begins, Reached}
@@ -117,18 +117,18 @@ unfinished_reader name fs (Some x) h f s e i =
     let is : x.reader ≡ i.reader = cc in
     never (is_finished x.reader) (ap is_finished is ∙ i.finished) f
 
-module _ (w : Wanted) (broken : Type 0) (most : ℕ) (tells : Config → Far → Type 0) (c : Config) (b : IsInBounds c) (s : State) (fs : List (List ℕ × Following)) (U : Register → Type 0) (qs : List (List Msg)) (old new : Option (List ℕ)) where
+module _ (w : Wanted) (counts : CallCounts) (most : ℕ) (tells : Config → Far → Type 0) (c : Config) (b : IsInBounds c) (s : State) (fs : List (List ℕ × Following)) (U : Register → Type 0) (qs : List (List Msg)) (old new : Option (List ℕ)) where
   abbrev at : State → List Event → Type 0
-  at = EndAt w c s.network.count most
+  at = EndAt w c s.network.count most counts
 
-  reached : (P : State → List Event → Type 0) (Q : State → Type 0) → (v : Went (tailing w) broken P (Follows fs U) (AllTaken (tells c)) c s.network.count s qs old new) → Q v.moved.state → Reached (tailing w) broken P (tells c) c s old new Q
+  reached : (P : State → List Event → Type 0) (Q : State → Type 0) → (v : Went (tailing w) (HasBroken counts) P (Follows fs U) (AllTaken (tells c)) c s.network.count s qs old new) → Q v.moved.state → Reached (tailing w) (HasBroken counts) P (tells c) c s old new Q
   reached P Q v q = record { state = v.moved.state; far = v.far; lines = v.lines; told = v.told.0; nodes = v.moved.holds.nodes; goes = v.moved.goes; written = v.written; such = q }
 
-  cut : Went (tailing w) broken at (Follows fs U) (AllTaken (tells c)) c s.network.count s qs old new → Stopped (tailing w) broken at c s old new
-  cut v = halted (tailing w) broken c s.network.count b at (Follows fs U) (AllTaken (tells c)) s qs old new v
+  cut : Went (tailing w) (HasBroken counts) at (Follows fs U) (AllTaken (tells c)) c s.network.count s qs old new → Stopped (tailing w) (HasBroken counts) at c s old new
+  cut v = halted (tailing w) (HasBroken counts) c s.network.count b at (Follows fs U) (AllTaken (tells c)) s qs old new v
 
   -- it has ended before all rounds were taken
-  stopped_by : (e : Ended) → Stops (tailing w) broken (λ f. at) (Follows fs U) (AllTaken (tells c)) c s.network.count s qs old new e → DroveTail w broken most tells U c s old new (Err e)
+  stopped_by : (e : Ended) → Stops (tailing w) (HasBroken counts) (λ f. at) (Follows fs U) (AllTaken (tells c)) c s.network.count s qs old new e → DroveTail w counts most tells U c s old new (Err e)
   stopped_by (ends.BadFrame fault) g = g
   stopped_by ends.NoMemory g = g
   stopped_by ends.Write g = g
@@ -143,28 +143,28 @@ module _ (w : Wanted) (broken : Type 0) (most : ℕ) (tells : Config → Far →
   stopped_by ends.Read g = cut g
 
   -- at the opening
-  pub stopped_tail : (e : Ended) → Stops (tailing w) broken (λ f. IsBegun (opening w)) (Follows fs U) (AllTaken (tells c)) c s.network.count s qs old new e → DroveTail w broken most tells U c s old new (Err e)
+  pub stopped_tail : (e : Ended) → Stops (tailing w) (HasBroken counts) (λ f. IsBegun (opening w)) (Follows fs U) (AllTaken (tells c)) c s.network.count s qs old new e → DroveTail w counts most tells U c s old new (Err e)
   stopped_tail e g = stopped_by e
-      (goes_such (tailing w) broken c s.network.count b {R = Unit {0}} (IsBegun (opening w)) (IsBegun (opening w)) (λ f. IsBegun (opening w)) (λ f. at) broken (Follows fs U) (AllTaken (tells c)) (AllTaken (tells c)) s qs old new (Err e) (λ x. x) (λ f t. t) (λ es x. x) (λ es x. inl x) g)
+      (goes_such (tailing w) (HasBroken counts) c s.network.count b {R = Unit {0}} (IsBegun (opening w)) (IsBegun (opening w)) (λ f. IsBegun (opening w)) (λ f. at) (HasBroken counts) (Follows fs U) (AllTaken (tells c)) (AllTaken (tells c)) s qs old new (Err e) (λ x. x) (λ f t. t) (λ es x. x) (λ es x. inl x) g)
 
-  module _ (A : Config → State → Type 0) (T : Far → Type 0) (rs : List (List Msg)) (mid : Option (List ℕ)) (v : Went (tailing w) broken (IsOne (opening w)) A T c s.network.count s rs old mid) where
-    since : (n : ℕ) → Went (tailing w) broken (AreReadRounds (is_single w.style) w.name c s.network.count (members c.nodes) n) (Follows fs U) (AllTaken (tells c)) c s.network.count v.moved.state qs mid new → Went (tailing w) broken (AreSteps w c s.network.count n) (Follows fs U) (AllTaken (tells c)) c s.network.count s qs old new
-    since n g = went_on (tailing w) broken c s.network.count b (IsOne (opening w)) (AreReadRounds (is_single w.style) w.name c s.network.count (members c.nodes) n) (AreSteps w c s.network.count n) A (Follows fs U) T (AllTaken (tells c)) s rs qs old mid new
-        (splits_join c (IsOne (opening w)) (AreReadRounds (is_single w.style) w.name c s.network.count (members c.nodes) n)) v g
+  module _ (A : Config → State → Type 0) (T : Far → Type 0) (rs : List (List Msg)) (mid : Option (List ℕ)) (v : Went (tailing w) (HasBroken counts) (IsOne (opening w)) A T c s.network.count s rs old mid) where
+    since : (n : ℕ) → Went (tailing w) (HasBroken counts) (AreReadRounds (is_single w.style) w.name c s.network.count (members c.nodes) n counts) (Follows fs U) (AllTaken (tells c)) c s.network.count v.moved.state qs mid new → Went (tailing w) (HasBroken counts) (AreSteps w c s.network.count n counts) (Follows fs U) (AllTaken (tells c)) c s.network.count s qs old new
+    since n g = went_on (tailing w) (HasBroken counts) c s.network.count b (IsOne (opening w)) (AreReadRounds (is_single w.style) w.name c s.network.count (members c.nodes) n counts) (AreSteps w c s.network.count n counts) A (Follows fs U) T (AllTaken (tells c)) s rs qs old mid new
+        (splits_join c (IsOne (opening w)) (AreReadRounds (is_single w.style) w.name c s.network.count (members c.nodes) n counts)) v g
 
-    stops_since : (e : Ended) (n : ℕ) → n < most → Stops (tailing w) broken (λ f. ReadsUntil (is_single w.style) w.name c s.network.count (members c.nodes) n) (Follows fs U) (AllTaken (tells c)) c s.network.count v.moved.state qs mid new e → Stops (tailing w) broken (λ f. at) (Follows fs U) (AllTaken (tells c)) c s.network.count s qs old new e
+    stops_since : (e : Ended) (n : ℕ) → n < most → Stops (tailing w) (HasBroken counts) (λ f. ReadsUntil (is_single w.style) w.name c s.network.count (members c.nodes) n counts) (Follows fs U) (AllTaken (tells c)) c s.network.count v.moved.state qs mid new e → Stops (tailing w) (HasBroken counts) (λ f. at) (Follows fs U) (AllTaken (tells c)) c s.network.count s qs old new e
     stops_since e n f g =
         let P = IsOne (opening w) in
-        let Q = ReadsUntil (is_single w.style) w.name c s.network.count (members c.nodes) n in
+        let Q = ReadsUntil (is_single w.style) w.name c s.network.count (members c.nodes) n counts in
         let j = λ (t : State) (es fs : List Event) (x : P t es) (y : Q (state_after c t es) fs). inr (record { rounds = n; below = f; goes = splits_join c P Q t es fs x y }) in
-        cut_by e (went_stops (tailing w) broken c s.network.count b P Q at A T s rs old mid new j v) (went_on (tailing w) broken c s.network.count b P Q at A (Follows fs U) T (AllTaken (tells c)) s rs qs old mid new j v) g
+        cut_by e (went_stops (tailing w) (HasBroken counts) c s.network.count b P Q at A T s rs old mid new j v) (went_on (tailing w) (HasBroken counts) c s.network.count b P Q at A (Follows fs U) T (AllTaken (tells c)) s rs qs old mid new j v) g
 
     -- the reader is opened, and driven
     drove : (r : Result Bool Ended) → IfOk r (λ done. done ≡ true → finished_in (find_named w.name fs) ≡ true) → IfOk r (λ done. 0 < most → done ≡ false → finished_in (find_named w.name fs) ≡ false)
-        → TookReads (is_single w.style) (tailing w) broken (members c.nodes) most (Follows fs U) (AllTaken (tells c)) c s.network.count v.moved.state qs mid new r → DroveTail w broken most tells U c s old new r
+        → TookReads (is_single w.style) (tailing w) counts (members c.nodes) most (Follows fs U) (AllTaken (tells c)) c s.network.count v.moved.state qs mid new r → DroveTail w counts most tells U c s old new r
     drove (Ok false) f n g =
         let u = since most g in
-        reached (AreSteps w c s.network.count most) (λ t. U t.register × (0 < most → IsFinished w.name t → ⊥)) u
+        reached (AreSteps w c s.network.count most counts) (λ t. U t.register × (0 < most → IsFinished w.name t → ⊥)) u
         (u.moved.holds.actor.register, λ some. unfinished_reader w.name fs (find_named w.name fs) refl (n some refl) u.moved.state u.moved.holds.actor.readers.readers)
     drove (Ok true) f n g =
         let u = since g.rounds g.goes in
@@ -172,14 +172,14 @@ module _ (w : Wanted) (broken : Type 0) (most : ℕ) (tells : Config → Far →
           rounds = g.rounds;
           least = g.least;
           below = g.below;
-          goes = reached (AreSteps w c s.network.count g.rounds) (λ t. U t.register × IsFinished w.name t) u
+          goes = reached (AreSteps w c s.network.count g.rounds counts) (λ t. U t.register × IsFinished w.name t) u
               (u.moved.holds.actor.register, finished_reader w.name fs (find_named w.name fs) refl (f refl) u.moved.state u.moved.holds.actor.readers.readers);
         }
     drove (Err e) f n g = stopped_by e (stops_since e g.rounds g.below g.goes)
 
     -- where it isn't silent
     pub drove_loud : (Y : Type 0) (r : Result Bool Ended) → IfOk r (λ done. done ≡ true → finished_in (find_named w.name fs) ≡ true) → IfOk r (λ done. 0 < most → done ≡ false → finished_in (find_named w.name fs) ≡ false)
-        → Y ⊎ TookReads (is_single w.style) (tailing w) broken (members c.nodes) most (Follows fs U) (AllTaken (tells c)) c s.network.count v.moved.state qs mid new r → Y ⊎ DroveTail w broken most tells U c s old new r
+        → Y ⊎ TookReads (is_single w.style) (tailing w) counts (members c.nodes) most (Follows fs U) (AllTaken (tells c)) c s.network.count v.moved.state qs mid new r → Y ⊎ DroveTail w counts most tells U c s old new r
     drove_loud Y r f n (inl y) = inl y
     drove_loud Y r f n (inr g) = inr (drove r f n g)
 
@@ -228,11 +228,11 @@ module _ (damaged : ℕ → Type 0) (k n before now : ℕ) where
   tail_end old new (Err (ends.BadLine line place)) why h i = why_end why h
   tail_end old new (Err ends.Read) why h i = why_end why h
 
-  module _ (w : Wanted) (broken : Type 0) (most : ℕ) (tells : Config → Far → Type 0) (U : Register → Type 0) (c : Config) (s : State) (old new : Option (List ℕ)) where
+  module _ (w : Wanted) (counts : CallCounts) (most : ℕ) (tells : Config → Far → Type 0) (U : Register → Type 0) (c : Config) (s : State) (old new : Option (List ℕ)) where
     abbrev Cut : Type 0
-    Cut = Stopped (tailing w) broken (EndAt w c s.network.count most) c s old new
+    Cut = Stopped (tailing w) (HasBroken counts) (EndAt w c s.network.count most counts) c s old new
 
-    why_tailed : (e : Ended) → IsLookEnd damaged k n e → Cut → IsTailed w broken most tells U c s old new e
+    why_tailed : (e : Ended) → IsLookEnd damaged k n e → Cut → IsTailed w counts most tells U c s old new e
     why_tailed (ends.Register fault) h g = g
     why_tailed ends.NoMemory h g = g
     why_tailed ends.Done h g = absurd h
@@ -246,7 +246,7 @@ module _ (damaged : ℕ → Type 0) (k n before now : ℕ) where
     why_tailed ends.Read h g = g
     why_tailed ends.Write h g = g
 
-    tailed : (r : Result Bool Ended) (why : Ended) → IsLookEnd damaged k n why → DroveTail w broken most tells U c s old new r → IsTailed w broken most tells U c s old new (end_of r why)
+    tailed : (r : Result Bool Ended) (why : Ended) → IsLookEnd damaged k n why → DroveTail w counts most tells U c s old new r → IsTailed w counts most tells U c s old new (end_of r why)
     tailed (Ok true) why h g = g
     tailed (Ok false) why h g = g
     tailed (Err (ends.BadFrame fault)) why h g = g
@@ -263,7 +263,7 @@ module _ (damaged : ℕ → Type 0) (k n before now : ℕ) where
     tailed (Err ends.Read) why h g = why_tailed why h g
 
     -- where it isn't silent
-    pub tailed_loud : (Y : Type 0) (r : Result Bool Ended) (why : Ended) → IsLookEnd damaged k n why → Y ⊎ DroveTail w broken most tells U c s old new r → Y ⊎ IsTailed w broken most tells U c s old new (end_of r why)
+    pub tailed_loud : (Y : Type 0) (r : Result Bool Ended) (why : Ended) → IsLookEnd damaged k n why → Y ⊎ DroveTail w counts most tells U c s old new r → Y ⊎ IsTailed w counts most tells U c s old new (end_of r why)
     tailed_loud Y r why h (inl y) = inl y
     tailed_loud Y r why h (inr g) = inr (tailed r why h g)
 

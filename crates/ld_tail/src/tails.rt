@@ -1,15 +1,17 @@
 // A reader is opened, and driven until it is finished.
-ghost use Rattle.std.specs.Prelude.{◌≡◌, ◌≤◌, ◌⊎◌, ℕ, [], None, Some, true, IfErr};
+ghost use Rattle.std.specs.Prelude.{◌≡◌, ◌≤◌, ◌⊎◌, ℕ, List, [], None, Some, true, IfErr};
 ghost use Rattle.ld_config.specs.Bounds.{IsInBounds};
+ghost use Rattle.ld_schedule.specs.declared.event.Event.{Event};
 ghost use Rattle.ld_msg.specs.Reader.{is_single};
 ghost use Rattle.ld_msg.specs.Register.{Register as Contents};
 ghost use Rattle.ld_machine.specs.State.{State};
 ghost use Rattle.ld_dial.specs.Far.{Far};
-ghost use Rattle.ld_rounds.specs.Drives.{IsBroken};
+ghost use Rattle.ld_rounds.specs.Drives.{IsBroken, counted};
 ghost use Rattle.ld_rounds.specs.Endings.{IsEnding, IsOffAs, EndsOff, IsEndedOff};
 ghost use Rattle.ld_rounds.specs.Reaching.{Begins};
+ghost use Rattle.ld_rounds.specs.Onward.{reached};
 ghost use Rattle.ld_tail.specs.Looking.{HasLooked};
-ghost use Rattle.ld_tail.specs.Tails.{HasNone, IsTailed, IsTailEnd, DroveTail, end_of};
+ghost use Rattle.ld_tail.specs.Tails.{HasNone, IsTailed, IsTailEnd, DroveTail, EndsTail, end_of};
 
 use crate::Reading;
 use crate::looking::why_of;
@@ -52,7 +54,7 @@ fn drive<G: Register, N: Nodes, O: Sink>(
     requires none { reading.old.readers ≡ [] }
     requires on { reading.old.end ≡ None }
     ensures drove { (s : State) (far : Far) → N.tells nodes.old config.now far → Begins (HasNone (G.tells reading.old.register)) config.now s far
-        → (N.silent nodes.new ≡ true) ⊎ DroveTail (record { name = name.now; log = reading.old.log; from = from; until = until; style = style }) (IsBroken (N.faults nodes.old) (N.faults nodes.new) (N.endings nodes.old) (N.endings nodes.new)) rounds (N.tells nodes.new) (G.tells reading.new.register) config.now s (Some (O.written out.old)) (Some (O.written out.new)) result }
+        → (N.silent nodes.new ≡ true) ⊎ DroveTail (record { name = name.now; log = reading.old.log; from = from; until = until; style = style }) (counted (N.faults nodes.old) (N.faults nodes.new) (N.endings nodes.old) (N.endings nodes.new)) rounds (N.tells nodes.new) (G.tells reading.new.register) config.now s (Some (O.written out.old)) (Some (O.written out.new)) result }
     ensures looked { HasLooked None reading.new.end (G.told reading.old.register) (G.told reading.new.register) (G.holds reading.old.register) (G.holds reading.new.register) (G.may_hold reading.old.register) (G.may_hold reading.new.register) (G.faults reading.old.register) (G.faults reading.new.register) (G.identity reading.old.register) (G.identity reading.new.register) }
     ensures damaged { (place : ℕ) → reading.new.end ≡ Some (Ended.Register (Refusal.Damaged place)) → G.told reading.old.register → G.damaged reading.old.register place }
     ensures cause { IfErr result (IsEnding (O.faults out.old) (O.faults out.new) (Some (O.written out.old)) (Some (O.written out.new))) }
@@ -130,11 +132,14 @@ pub fn tail<G: Register, N: Nodes, O: Sink>(
     // Where the nodes and the register tell what stands there: all that was done are steps of the written machine from any state
     // without readers that they represent: the reader is opened, and then round by round it polls, where it reads one copy only
     // if no message that is new waits for a node, and the configuration's nodes are visited one after the other. The lines that
-    // were written are the reader's lines of those steps. A message to a node is lost only where a call of the nodes failed or
-    // a node had ended, and an answer only where the reader doesn't take it. A node may be ticked for the log in its visit,
-    // right behind an answer by which it tells the reader to wait. It never ends with `BadFrame`.
+    // were written are the reader's lines of those steps. A message to a node is lost only in a visit of it in which a call of
+    // the nodes failed or a node had ended, and an answer only where the reader doesn't take it. A node may be ticked for the
+    // log in its visit, right behind an answer by which it tells the reader to wait. It never ends with `BadFrame`.
     ensures tailed { (s : State) (far : Far) → N.tells nodes.old config.now far → Begins (HasNone (G.tells register)) config.now s far
-        → (N.silent nodes.new ≡ true) ⊎ IsTailed (record { name = name; log = log; from = from; until = until; style = style }) (IsBroken (N.faults nodes.old) (N.faults nodes.new) (N.endings nodes.old) (N.endings nodes.new)) rounds (N.tells nodes.new) (G.tells result.1) config.now s (Some (O.written out.old)) (Some (O.written out.new)) result.0 }
+        → (N.silent nodes.new ≡ true) ⊎ IsTailed (record { name = name; log = log; from = from; until = until; style = style }) (counted (N.faults nodes.old) (N.faults nodes.new) (N.endings nodes.old) (N.endings nodes.new)) rounds (N.tells nodes.new) (G.tells result.1) config.now s (Some (O.written out.old)) (Some (O.written out.new)) result.0 }
+    // Where a run of the written machine leads to such a state, that run goes on by these steps, and is safe as a whole.
+    ensures safe { (before : List Event) (far : Far) → N.tells nodes.old config.now far → Begins (HasNone (G.tells register)) config.now (reached config.now before) far
+        → (N.silent nodes.new ≡ true) ⊎ EndsTail (record { name = name; log = log; from = from; until = until; style = style }) (IsBroken (N.faults nodes.old) (N.faults nodes.new) (N.endings nodes.old) (N.endings nodes.new)) config.now before (Some (O.written out.old)) (Some (O.written out.new)) result.0 }
     ensures cause { IsTailEnd (λ place. G.told register → G.damaged register place) (G.faults register) (G.faults result.1) (O.faults out.old) (O.faults out.new) result.0 }
     // It ends with `BadFrame` only by the fault that the nodes tell, and where they tell one it ends by that.
     ensures off { IsOffAs (N.off nodes.new) result.0 }

@@ -6,11 +6,12 @@ use Rattle.ld_msg.specs.declared.msg.Msg.{Msg}
 use Rattle.ld_rounds.specs.declared.ended.Ended.{Ended}
 use Rattle.ld_rounds.specs.declared.ended.Ended.TheVariants as ends
 use Rattle.ld_rounds.specs.Acts.{Own}
-use Rattle.ld_rounds.specs.Drives.{AllTaken, IsBroken, Holds}
+use Rattle.ld_rounds.specs.Drives.{AllTaken, IsBroken, Holds, counted, HasBroken}
 use Rattle.ld_rounds.specs.Taking.{TookAppends}
 use Rattle.ld_rounds.proofs.Visiting.{all_there}
 use Rattle.ld_rounds.proofs.Joining.{feeds_here, feeds_until}
-use Rattle.ld_append.specs.Appends.{EndAt, DroveAppend, IsDriveEnding, IsRefused, sequencing}
+use Rattle.ld_rounds.specs.Reaching.{Begins}
+use Rattle.ld_append.specs.Appends.{HasNone, EndAt, DroveAppend, IsDriveEnding, IsRefused, sequencing}
 use Rattle.ld_rounds.proofs.Going.{whatever, stopped_here}
 use Rattle.ld_append.proofs.Crowding.{shut_so, leaves_so}
 use Rattle.ld_append.specs.Acting.{Serves, takes, MayCrowd, HoldsSome, LacksRoom, leaves_here}
@@ -42,35 +43,37 @@ returns-clause-cause g c =
     (g.O.Sink.faults c.args.out.now) (g.O.Sink.faults c.append-driven.new.out) (Some (g.O.Sink.written c.args.out.now)) (Some (g.O.Sink.written c.append-driven.new.out)) _ _ y.end c.append-driven.result c.in_ok-start.ensures.later c.append-driven.ensures.cause)
 
 pub returns-in_default-clause-drove : goal.returns-in_default-clause-drove
-returns-in_default-clause-drove g c named none s far b is unset told h =
+returns-in_default-clause-drove g c none s far b is unset told h =
     let i = g.P.Payloads.coming c.args.input.now in
-    inr (stopped_here (sequencing c.args.name.now) (IsBroken (g.N.Nodes.faults c.args.nodes.now) (g.N.Nodes.faults c.args.nodes.now) (g.N.Nodes.endings c.args.nodes.now) (g.N.Nodes.endings c.args.nodes.now)) c.args.config.now s.network.count b (EndAt c.args.name.now c.args.spec.now.log c.args.config.now s.network.count i c.args.rounds ends.NoMemory) s (Some (g.O.Sink.written c.args.out.now)) (inl (inl refl, feeds_until c.args.config.now i i ends.NoMemory s [] tt (feeds_here c.args.config.now i s))))
+    inr (stopped_here (sequencing c.args.name.now) (IsBroken (g.N.Nodes.faults c.args.nodes.now) (g.N.Nodes.faults c.args.nodes.now) (g.N.Nodes.endings c.args.nodes.now) (g.N.Nodes.endings c.args.nodes.now)) c.args.config.now s.network.count b (EndAt c.args.name.now c.args.spec.now.log c.args.config.now s.network.count (counted (g.N.Nodes.faults c.args.nodes.now) (g.N.Nodes.faults c.args.nodes.now) (g.N.Nodes.endings c.args.nodes.now) (g.N.Nodes.endings c.args.nodes.now)) i c.args.rounds ends.NoMemory) s (Some (g.O.Sink.written c.args.out.now)) (inl (inl refl, feeds_until c.args.config.now i i ends.NoMemory s [] tt (feeds_here c.args.config.now i s))))
 
 pub returns-in_err-start-clause-drove : goal.returns-in_err-start-clause-drove
-returns-in_err-start-clause-drove g c named none s far b is unset told h =
+returns-in_err-start-clause-drove g c none s far b is unset told h =
     let p = err_from_is_err_and c.from_residual.result c.from_residual.ensures.1 in
     let k = c.args.config.now in
     let first = s.network.count in
     let name = c.args.name.now in
-    let broken = IsBroken (g.N.Nodes.faults c.args.nodes.now) (g.N.Nodes.faults c.args.nodes.now) (g.N.Nodes.endings c.args.nodes.now) (g.N.Nodes.endings c.args.nodes.now) in
+    let counts = counted (g.N.Nodes.faults c.args.nodes.now) (g.N.Nodes.faults c.args.nodes.now) (g.N.Nodes.endings c.args.nodes.now) (g.N.Nodes.endings c.args.nodes.now) in
+    let broken = HasBroken counts in
     let old = Some (g.O.Sink.written c.args.out.now) in
     let new = Some (g.O.Sink.written c.start.new.out) in
     let a = c.args.acting.now in
     let z = c.start.new.acting in
     let e = c.in_err-start.field-0.0 in
     let T = g.G.Register.tells a.register in
-    let begins = subst (λ (qs : List (List Msg)). Holds (Serves a.name None T) k first s far qs) (sym c.in-Ok.ensures) (begun a.name T k s far h) in
-    let stops = start_as a.name name c.args.spec.now.log broken k b first (Serves z.name z.sequencer (g.G.Register.tells z.register)) far (AllTaken (g.N.Nodes.tells c.args.nodes.now k)) s c.start.new.queues old new named (told, h.answers) (Err e) (c.in_err-start.ensures.started none first s far b is unset begins) in
+    let begins = subst (λ (qs : List (List Msg)). Holds (Serves a.name None T) k first s far qs) (sym c.in-Ok.ensures) (begun a.name T k s far (subst (λ (n : List ℕ). Begins (HasNone n T) k s far) (sym c.requires.named) h)) in
+    let stops = start_as a.name name c.args.spec.now.log broken k b first (Serves z.name z.sequencer (g.G.Register.tells z.register)) far (AllTaken (g.N.Nodes.tells c.args.nodes.now k)) s c.start.new.queues old new c.requires.named (told, h.answers) (Err e) (c.in_err-start.ensures.started none first s far b is unset begins) in
     let i = g.P.Payloads.coming c.args.input.now in
-    rw (p.1, p.2) (inr (stopped_append name c.args.spec.now.log broken i c.args.rounds (g.N.Nodes.tells c.args.nodes.now) k b s z.name (c.in_err-start.ensures.name ∙ named) z.sequencer (g.G.Register.tells z.register) c.start.new.queues old new
+    rw (p.1, p.2) (inr (stopped_append name c.args.spec.now.log counts i c.args.rounds (g.N.Nodes.tells c.args.nodes.now) k b s z.name (c.in_err-start.ensures.name ∙ c.requires.named) z.sequencer (g.G.Register.tells z.register) c.start.new.queues old new
     (g.G.Register.told a.register → MayCrowd (g.G.Register.may_hold a.register) c.args.spec.now.log) (λ place. g.G.Register.told a.register → g.G.Register.damaged a.register place) i e 0 0 (g.O.Sink.faults c.args.out.now) (g.O.Sink.faults c.start.new.out) c.in_err-start.ensures.cause stops))
 
 pub returns-clause-drove : goal.returns-clause-drove
-returns-clause-drove g c named none s far b is unset told h =
+returns-clause-drove g c none s far b is unset told h =
     let k = c.args.config.now in
     let first = s.network.count in
     let name = c.args.name.now in
-    let broken = IsBroken (g.N.Nodes.faults c.args.nodes.now) (g.N.Nodes.faults c.append-driven.new.nodes) (g.N.Nodes.endings c.args.nodes.now) (g.N.Nodes.endings c.append-driven.new.nodes) in
+    let counts = counted (g.N.Nodes.faults c.args.nodes.now) (g.N.Nodes.faults c.append-driven.new.nodes) (g.N.Nodes.endings c.args.nodes.now) (g.N.Nodes.endings c.append-driven.new.nodes) in
+    let broken = HasBroken counts in
     let old = Some (g.O.Sink.written c.args.out.now) in
     let mid = Some (g.O.Sink.written c.start.new.out) in
     let new = Some (g.O.Sink.written c.append-driven.new.out) in
@@ -79,16 +82,16 @@ returns-clause-drove g c named none s far b is unset told h =
     let y = c.append-driven.new.sequencer in
     let A = Serves z.name z.sequencer (g.G.Register.tells z.register) in
     let T = g.G.Register.tells a.register in
-    let begins = subst (λ (qs : List (List Msg)). Holds (Serves a.name None T) k first s far qs) (sym c.in-Ok.ensures) (begun a.name T k s far h) in
-    let w = start_as a.name name c.args.spec.now.log broken k b first A far (AllTaken (g.N.Nodes.tells c.args.nodes.now k)) s c.start.new.queues old mid named (told, h.answers) (Ok tt) (c.in_ok-start.ensures.started none first s far b is unset begins) in
+    let begins = subst (λ (qs : List (List Msg)). Holds (Serves a.name None T) k first s far qs) (sym c.in-Ok.ensures) (begun a.name T k s far (subst (λ (n : List ℕ). Begins (HasNone n T) k s far) (sym c.requires.named) h)) in
+    let w = start_as a.name name c.args.spec.now.log broken k b first A far (AllTaken (g.N.Nodes.tells c.args.nodes.now k)) s c.start.new.queues old mid c.requires.named (told, h.answers) (Ok tt) (c.in_ok-start.ensures.started none first s far b is unset begins) in
     let i = g.P.Payloads.coming c.args.input.now in
-    let same : y.name ≡ name = ap (λ (x : Own). x.name) c.append-driven.ensures.actor ∙ (c.in_ok-start.ensures.name ∙ named) in
-    let driven = drove_loud name c.args.spec.now.log broken i c.args.rounds (g.N.Nodes.tells c.append-driven.new.nodes) k b s y.name same y.sequencer (g.G.Register.tells y.register) c.append-driven.new.queues old new A (AllTaken (g.N.Nodes.tells c.args.nodes.now k)) c.start.new.queues mid
+    let same : y.name ≡ name = ap (λ (x : Own). x.name) c.append-driven.ensures.actor ∙ (c.in_ok-start.ensures.name ∙ c.requires.named) in
+    let driven = drove_loud name c.args.spec.now.log counts i c.args.rounds (g.N.Nodes.tells c.append-driven.new.nodes) k b s y.name same y.sequencer (g.G.Register.tells y.register) c.append-driven.new.queues old new A (AllTaken (g.N.Nodes.tells c.args.nodes.now k)) c.start.new.queues mid
     (g.G.Register.told a.register → MayCrowd (g.G.Register.may_hold a.register) c.args.spec.now.log) (λ place. g.G.Register.told a.register → g.G.Register.damaged a.register place) i (g.P.Payloads.faults c.args.input.now) (g.P.Payloads.faults c.append-driven.new.input) (g.O.Sink.faults c.args.out.now) (g.O.Sink.faults c.append-driven.new.out) w
-    (g.N.Nodes.silent c.append-driven.new.nodes ≡ true) c.append-driven.result c.append-driven.ensures.settled (rounds_cause _ _ _ _ _ _ _ _ _ _ _ c.append-driven.result c.in_ok-start.ensures.later c.append-driven.ensures.cause) (subst (λ (n : List ℕ). (g.N.Nodes.silent c.append-driven.new.nodes ≡ true) ⊎ TookAppends (record { name = name; takes = takes n; ticks = None }) broken (members k.nodes) i c.args.rounds (Serves y.name y.sequencer (g.G.Register.tells y.register)) (AllTaken (g.N.Nodes.tells c.append-driven.new.nodes k)) k first w.moved.state c.append-driven.new.queues mid new c.append-driven.result)
-    (c.in_ok-start.ensures.name ∙ named) (c.append-driven.ensures.held k first w.moved.state w.far b (all_there k) w.told w.moved.holds)) in
-    subst (λ (x : Result Bool Ended). (g.N.Nodes.silent c.append-driven.new.nodes ≡ true) ⊎ DroveAppend name c.args.spec.now.log broken i c.args.rounds (g.N.Nodes.tells c.append-driven.new.nodes) (g.G.Register.tells y.register) k s old new x) (sym (ended_round c.end.result y.end c.append-driven.result c.round_end.result c.end.ensures c.round_end.ensures))
-    (round_loud name c.args.spec.now.log broken i c.args.rounds (g.N.Nodes.tells c.append-driven.new.nodes) (g.G.Register.tells y.register) k b s old new (g.N.Nodes.silent c.append-driven.new.nodes ≡ true) y.end c.append-driven.result driven)
+    (g.N.Nodes.silent c.append-driven.new.nodes ≡ true) c.append-driven.result c.append-driven.ensures.settled (rounds_cause _ _ _ _ _ _ _ _ _ _ _ c.append-driven.result c.in_ok-start.ensures.later c.append-driven.ensures.cause) (subst (λ (n : List ℕ). (g.N.Nodes.silent c.append-driven.new.nodes ≡ true) ⊎ TookAppends (record { name = name; takes = takes n; ticks = None }) counts (members k.nodes) i c.args.rounds (Serves y.name y.sequencer (g.G.Register.tells y.register)) (AllTaken (g.N.Nodes.tells c.append-driven.new.nodes k)) k first w.moved.state c.append-driven.new.queues mid new c.append-driven.result)
+    (c.in_ok-start.ensures.name ∙ c.requires.named) (c.append-driven.ensures.held k first w.moved.state w.far b (all_there k) w.told w.moved.holds)) in
+    subst (λ (x : Result Bool Ended). (g.N.Nodes.silent c.append-driven.new.nodes ≡ true) ⊎ DroveAppend name c.args.spec.now.log counts i c.args.rounds (g.N.Nodes.tells c.append-driven.new.nodes) (g.G.Register.tells y.register) k s old new x) (sym (ended_round c.end.result y.end c.append-driven.result c.round_end.result c.end.ensures c.round_end.ensures))
+    (round_loud name c.args.spec.now.log counts i c.args.rounds (g.N.Nodes.tells c.append-driven.new.nodes) (g.G.Register.tells y.register) k b s old new (g.N.Nodes.silent c.append-driven.new.nodes ≡ true) y.end c.append-driven.result driven)
 
 pub returns-clause-shut : goal.returns-clause-shut
 returns-clause-shut g c none unshut =

@@ -109,8 +109,8 @@ returns-then-has_to_wait-clause-over g c origin p q =
 pub returns-then-has_to_wait-clause-waits : goal.returns-then-has_to_wait-clause-waits
 returns-then-has_to_wait-clause-waits g c none ready = absurd (let h = c.requests.invariant.8 none ready in never c.is_ready.result c.if-not-is_ready.false (c.is_ready.ensures.unready h.1 (ap (λ x. g.P.Payloads.ready x) h.0 ∙ ready)))
 
-pub add-requires : goal.add-requires
-add-requires g c = sym c.has_to_wait.ensures ∙ c.if-has_to_wait.false
+pub add-requires-clause-now : goal.add-requires-clause-now
+add-requires-clause-now g c = sym c.has_to_wait.ensures ∙ c.if-has_to_wait.false
 
 pub requests-preserved : goal.requests-preserved
 requests-preserved g c = (

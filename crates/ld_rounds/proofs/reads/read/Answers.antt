@@ -2,17 +2,17 @@ use Rattle.std.proofs.Common.{◌≡◌, ◌∙◌, ◌+◌, refl, arith, inr, O
 use Rattle.std.proofs.lemmas.Result.{err_from_is_err_and}
 use Rattle.ld_ids.specs.Set.{members}
 use Rattle.ld_rounds.specs.Acts.{driver}
-use Rattle.ld_rounds.specs.Drives.{AllTaken, IsBroken}
+use Rattle.ld_rounds.specs.Drives.{AllTaken, IsBroken, counted}
 use Rattle.ld_rounds.specs.Rounds.{AreReadRounds, IsReadRound, IsReadPart, ReadsUntil}
-use Rattle.ld_rounds.proofs.Joining.{splits_join, read_more, turned}
-use Rattle.ld_rounds.proofs.Visiting.{broken_since, broken_until, later_since}
+use Rattle.ld_rounds.proofs.Joining.{chains_join, read_more, turned}
+use Rattle.ld_rounds.proofs.Counting.{broken_since, broken_until, later_since}
 use Rattle.ld_rounds.proofs.Endings.{later_here, later_on, ending_since, none_off, goes_unoff, ends_as}
 use Rattle.ld_rounds.proofs.Going.{went_here, then_on}
 use Rattle.ld_rounds.proofs.reads.read.Goals as goal
 
 pub rounds-init : goal.rounds-init
 rounds-init g c = (
-  λ k first s far b there told h. inr (went_here (driver c.args.name.now (g.R.Actor.own c.args.reader.now)) (IsBroken (g.N.Nodes.faults c.args.nodes.now) (g.N.Nodes.faults c.args.nodes.now) (g.N.Nodes.endings c.args.nodes.now) (g.N.Nodes.endings c.args.nodes.now)) k first b (AreReadRounds c.args.is_sparing c.args.name.now k first (members c.args.set.now) 0) (g.R.Actor.stands c.args.reader.now) (AllTaken (g.N.Nodes.tells c.args.nodes.now k)) s far c.args.queues.now (Some (g.O.Sink.written c.args.out.now)) refl told h),
+  λ k first s far b there told h. inr (went_here (driver c.args.name.now (g.R.Actor.own c.args.reader.now)) (IsBroken (g.N.Nodes.faults c.args.nodes.now) (g.N.Nodes.faults c.args.nodes.now) (g.N.Nodes.endings c.args.nodes.now) (g.N.Nodes.endings c.args.nodes.now)) k first b (AreReadRounds c.args.is_sparing c.args.name.now k first (members c.args.set.now) 0 (counted (g.N.Nodes.faults c.args.nodes.now) (g.N.Nodes.faults c.args.nodes.now) (g.N.Nodes.endings c.args.nodes.now) (g.N.Nodes.endings c.args.nodes.now))) (g.R.Actor.stands c.args.reader.now) (AllTaken (g.N.Nodes.tells c.args.nodes.now k)) s far c.args.queues.now (Some (g.O.Sink.written c.args.out.now)) refl told h),
   later_here _ _,
   (omega arith, omega arith),
   refl,
@@ -24,8 +24,8 @@ rounds-init g c = (
 pub returns-in_err-read_turn-clause-held : goal.returns-in_err-read_turn-clause-held
 returns-in_err-read_turn-clause-held g c k first s far b there told h =
     let p = err_from_is_err_and c.from_residual.result c.from_residual.ensures.1 in
-    rw (p.1, p.2) (turned 0 c.args.rounds c.rounds.number (omega arith) (omega arith) (then_on (driver c.args.name.now (g.R.Actor.own c.args.reader.now)) (IsBroken (g.N.Nodes.faults c.args.nodes.now) (g.N.Nodes.faults c.read_turn.new.nodes) (g.N.Nodes.endings c.args.nodes.now) (g.N.Nodes.endings c.read_turn.new.nodes)) k first b {R = Unit {0}} (AreReadRounds c.args.is_sparing c.args.name.now k first (members c.args.set.now) c.rounds.number) (IsReadRound c.args.is_sparing c.args.name.now k first (members c.args.set.now)) (AreReadRounds c.args.is_sparing c.args.name.now k first (members c.args.set.now) (c.rounds.number + 1)) (λ e. IsReadPart c.args.is_sparing c.args.name.now k first (members c.args.set.now)) (λ e. ReadsUntil c.args.is_sparing c.args.name.now k first (members c.args.set.now) c.rounds.number) (IsBroken (g.N.Nodes.faults c.args.nodes.now) (g.N.Nodes.faults c.rounds.nodes) (g.N.Nodes.endings c.args.nodes.now) (g.N.Nodes.endings c.rounds.nodes)) (IsBroken (g.N.Nodes.faults c.rounds.nodes) (g.N.Nodes.faults c.read_turn.new.nodes) (g.N.Nodes.endings c.rounds.nodes) (g.N.Nodes.endings c.read_turn.new.nodes)) (g.N.Nodes.silent c.rounds.nodes ≡ true) (g.N.Nodes.silent c.read_turn.new.nodes ≡ true) (g.R.Actor.stands c.rounds.reader) (g.R.Actor.stands c.read_turn.new.reader) (AllTaken (g.N.Nodes.tells c.rounds.nodes k)) (AllTaken (g.N.Nodes.tells c.read_turn.new.nodes k)) s
-    c.rounds.queues c.read_turn.new.queues (Some (g.O.Sink.written c.args.out.now)) (Some (g.O.Sink.written c.rounds.out)) (Some (g.O.Sink.written c.read_turn.new.out)) (Err c.in_err-read_turn.field-0.0) (read_more k c.args.is_sparing c.args.name.now first (members c.args.set.now) c.rounds.number) (splits_join k (AreReadRounds c.args.is_sparing c.args.name.now k first (members c.args.set.now) c.rounds.number) (IsReadPart c.args.is_sparing c.args.name.now k first (members c.args.set.now))) (broken_until _ _ _ _ _ _ c.in_err-read_turn.ensures.counts) (broken_since _ _ _ _ _ _ c.rounds.invariant.2)
+    rw (p.1, p.2) (turned 0 c.args.rounds c.rounds.number (omega arith) (omega arith) (then_on (driver c.args.name.now (g.R.Actor.own c.args.reader.now)) (IsBroken (g.N.Nodes.faults c.args.nodes.now) (g.N.Nodes.faults c.read_turn.new.nodes) (g.N.Nodes.endings c.args.nodes.now) (g.N.Nodes.endings c.read_turn.new.nodes)) k first b {R = Unit {0}} (AreReadRounds c.args.is_sparing c.args.name.now k first (members c.args.set.now) c.rounds.number (counted (g.N.Nodes.faults c.args.nodes.now) (g.N.Nodes.faults c.rounds.nodes) (g.N.Nodes.endings c.args.nodes.now) (g.N.Nodes.endings c.rounds.nodes))) (IsReadRound c.args.is_sparing c.args.name.now k first (members c.args.set.now) (counted (g.N.Nodes.faults c.rounds.nodes) (g.N.Nodes.faults c.read_turn.new.nodes) (g.N.Nodes.endings c.rounds.nodes) (g.N.Nodes.endings c.read_turn.new.nodes))) (AreReadRounds c.args.is_sparing c.args.name.now k first (members c.args.set.now) (c.rounds.number + 1) (counted (g.N.Nodes.faults c.args.nodes.now) (g.N.Nodes.faults c.read_turn.new.nodes) (g.N.Nodes.endings c.args.nodes.now) (g.N.Nodes.endings c.read_turn.new.nodes))) (λ e. IsReadPart c.args.is_sparing c.args.name.now k first (members c.args.set.now) (counted (g.N.Nodes.faults c.rounds.nodes) (g.N.Nodes.faults c.read_turn.new.nodes) (g.N.Nodes.endings c.rounds.nodes) (g.N.Nodes.endings c.read_turn.new.nodes))) (λ e. ReadsUntil c.args.is_sparing c.args.name.now k first (members c.args.set.now) c.rounds.number (counted (g.N.Nodes.faults c.args.nodes.now) (g.N.Nodes.faults c.read_turn.new.nodes) (g.N.Nodes.endings c.args.nodes.now) (g.N.Nodes.endings c.read_turn.new.nodes))) (IsBroken (g.N.Nodes.faults c.args.nodes.now) (g.N.Nodes.faults c.rounds.nodes) (g.N.Nodes.endings c.args.nodes.now) (g.N.Nodes.endings c.rounds.nodes)) (IsBroken (g.N.Nodes.faults c.rounds.nodes) (g.N.Nodes.faults c.read_turn.new.nodes) (g.N.Nodes.endings c.rounds.nodes) (g.N.Nodes.endings c.read_turn.new.nodes)) (g.N.Nodes.silent c.rounds.nodes ≡ true) (g.N.Nodes.silent c.read_turn.new.nodes ≡ true) (g.R.Actor.stands c.rounds.reader) (g.R.Actor.stands c.read_turn.new.reader) (AllTaken (g.N.Nodes.tells c.rounds.nodes k)) (AllTaken (g.N.Nodes.tells c.read_turn.new.nodes k)) s
+    c.rounds.queues c.read_turn.new.queues (Some (g.O.Sink.written c.args.out.now)) (Some (g.O.Sink.written c.rounds.out)) (Some (g.O.Sink.written c.read_turn.new.out)) (Err c.in_err-read_turn.field-0.0) (read_more k c.args.is_sparing c.args.name.now first (members c.args.set.now) c.rounds.number (g.N.Nodes.faults c.args.nodes.now) (g.N.Nodes.faults c.rounds.nodes) (g.N.Nodes.faults c.read_turn.new.nodes) (g.N.Nodes.endings c.args.nodes.now) (g.N.Nodes.endings c.rounds.nodes) (g.N.Nodes.endings c.read_turn.new.nodes) c.rounds.invariant.2 c.in_err-read_turn.ensures.counts) (chains_join k (AreReadRounds c.args.is_sparing c.args.name.now k first (members c.args.set.now) c.rounds.number) (IsReadPart c.args.is_sparing c.args.name.now k first (members c.args.set.now)) (g.N.Nodes.faults c.args.nodes.now) (g.N.Nodes.faults c.rounds.nodes) (g.N.Nodes.faults c.read_turn.new.nodes) (g.N.Nodes.endings c.args.nodes.now) (g.N.Nodes.endings c.rounds.nodes) (g.N.Nodes.endings c.read_turn.new.nodes) c.rounds.invariant.2 c.in_err-read_turn.ensures.counts) (broken_until _ _ _ _ _ _ c.in_err-read_turn.ensures.counts) (broken_since _ _ _ _ _ _ c.rounds.invariant.2)
     c.in_err-read_turn.ensures.silent
     (λ w. c.in_err-read_turn.ensures.held (g.R.Actor.own c.args.reader.now) c.rounds.invariant.3 k first w.moved.state w.far b there w.told w.moved.holds)
     (c.rounds.invariant.0 k first s far b there told h)))
@@ -40,8 +40,8 @@ returns-in_err-read_turn-clause-later g c = later_on _ _ _ _ _ _ c.rounds.invari
 
 pub returns-then-is_done-clause-held : goal.returns-then-is_done-clause-held
 returns-then-is_done-clause-held g c k first s far b there told h =
-    turned 1 (c.args.rounds + 1) (c.rounds.number + 1) (omega arith) (omega arith) (then_on (driver c.args.name.now (g.R.Actor.own c.args.reader.now)) (IsBroken (g.N.Nodes.faults c.args.nodes.now) (g.N.Nodes.faults c.read_turn.new.nodes) (g.N.Nodes.endings c.args.nodes.now) (g.N.Nodes.endings c.read_turn.new.nodes)) k first b {R = Unit {0}} (AreReadRounds c.args.is_sparing c.args.name.now k first (members c.args.set.now) c.rounds.number) (IsReadRound c.args.is_sparing c.args.name.now k first (members c.args.set.now)) (AreReadRounds c.args.is_sparing c.args.name.now k first (members c.args.set.now) (c.rounds.number + 1)) (λ e. IsReadPart c.args.is_sparing c.args.name.now k first (members c.args.set.now)) (λ e. ReadsUntil c.args.is_sparing c.args.name.now k first (members c.args.set.now) c.rounds.number) (IsBroken (g.N.Nodes.faults c.args.nodes.now) (g.N.Nodes.faults c.rounds.nodes) (g.N.Nodes.endings c.args.nodes.now) (g.N.Nodes.endings c.rounds.nodes)) (IsBroken (g.N.Nodes.faults c.rounds.nodes) (g.N.Nodes.faults c.read_turn.new.nodes) (g.N.Nodes.endings c.rounds.nodes) (g.N.Nodes.endings c.read_turn.new.nodes)) (g.N.Nodes.silent c.rounds.nodes ≡ true) (g.N.Nodes.silent c.read_turn.new.nodes ≡ true) (g.R.Actor.stands c.rounds.reader) (g.R.Actor.stands c.read_turn.new.reader) (AllTaken (g.N.Nodes.tells c.rounds.nodes k)) (AllTaken (g.N.Nodes.tells c.read_turn.new.nodes k)) s
-    c.rounds.queues c.read_turn.new.queues (Some (g.O.Sink.written c.args.out.now)) (Some (g.O.Sink.written c.rounds.out)) (Some (g.O.Sink.written c.read_turn.new.out)) (Ok tt) (read_more k c.args.is_sparing c.args.name.now first (members c.args.set.now) c.rounds.number) tt (broken_until _ _ _ _ _ _ c.in_ok-read_turn.ensures.counts) (broken_since _ _ _ _ _ _ c.rounds.invariant.2)
+    turned 1 (c.args.rounds + 1) (c.rounds.number + 1) (omega arith) (omega arith) (then_on (driver c.args.name.now (g.R.Actor.own c.args.reader.now)) (IsBroken (g.N.Nodes.faults c.args.nodes.now) (g.N.Nodes.faults c.read_turn.new.nodes) (g.N.Nodes.endings c.args.nodes.now) (g.N.Nodes.endings c.read_turn.new.nodes)) k first b {R = Unit {0}} (AreReadRounds c.args.is_sparing c.args.name.now k first (members c.args.set.now) c.rounds.number (counted (g.N.Nodes.faults c.args.nodes.now) (g.N.Nodes.faults c.rounds.nodes) (g.N.Nodes.endings c.args.nodes.now) (g.N.Nodes.endings c.rounds.nodes))) (IsReadRound c.args.is_sparing c.args.name.now k first (members c.args.set.now) (counted (g.N.Nodes.faults c.rounds.nodes) (g.N.Nodes.faults c.read_turn.new.nodes) (g.N.Nodes.endings c.rounds.nodes) (g.N.Nodes.endings c.read_turn.new.nodes))) (AreReadRounds c.args.is_sparing c.args.name.now k first (members c.args.set.now) (c.rounds.number + 1) (counted (g.N.Nodes.faults c.args.nodes.now) (g.N.Nodes.faults c.read_turn.new.nodes) (g.N.Nodes.endings c.args.nodes.now) (g.N.Nodes.endings c.read_turn.new.nodes))) (λ e. IsReadPart c.args.is_sparing c.args.name.now k first (members c.args.set.now) (counted (g.N.Nodes.faults c.rounds.nodes) (g.N.Nodes.faults c.read_turn.new.nodes) (g.N.Nodes.endings c.rounds.nodes) (g.N.Nodes.endings c.read_turn.new.nodes))) (λ e. ReadsUntil c.args.is_sparing c.args.name.now k first (members c.args.set.now) c.rounds.number (counted (g.N.Nodes.faults c.args.nodes.now) (g.N.Nodes.faults c.read_turn.new.nodes) (g.N.Nodes.endings c.args.nodes.now) (g.N.Nodes.endings c.read_turn.new.nodes))) (IsBroken (g.N.Nodes.faults c.args.nodes.now) (g.N.Nodes.faults c.rounds.nodes) (g.N.Nodes.endings c.args.nodes.now) (g.N.Nodes.endings c.rounds.nodes)) (IsBroken (g.N.Nodes.faults c.rounds.nodes) (g.N.Nodes.faults c.read_turn.new.nodes) (g.N.Nodes.endings c.rounds.nodes) (g.N.Nodes.endings c.read_turn.new.nodes)) (g.N.Nodes.silent c.rounds.nodes ≡ true) (g.N.Nodes.silent c.read_turn.new.nodes ≡ true) (g.R.Actor.stands c.rounds.reader) (g.R.Actor.stands c.read_turn.new.reader) (AllTaken (g.N.Nodes.tells c.rounds.nodes k)) (AllTaken (g.N.Nodes.tells c.read_turn.new.nodes k)) s
+    c.rounds.queues c.read_turn.new.queues (Some (g.O.Sink.written c.args.out.now)) (Some (g.O.Sink.written c.rounds.out)) (Some (g.O.Sink.written c.read_turn.new.out)) (Ok tt) (read_more k c.args.is_sparing c.args.name.now first (members c.args.set.now) c.rounds.number (g.N.Nodes.faults c.args.nodes.now) (g.N.Nodes.faults c.rounds.nodes) (g.N.Nodes.faults c.read_turn.new.nodes) (g.N.Nodes.endings c.args.nodes.now) (g.N.Nodes.endings c.rounds.nodes) (g.N.Nodes.endings c.read_turn.new.nodes) c.rounds.invariant.2 c.in_ok-read_turn.ensures.counts) tt (broken_until _ _ _ _ _ _ c.in_ok-read_turn.ensures.counts) (broken_since _ _ _ _ _ _ c.rounds.invariant.2)
     c.in_ok-read_turn.ensures.silent
     (λ w. c.in_ok-read_turn.ensures.held (g.R.Actor.own c.args.reader.now) c.rounds.invariant.3 k first w.moved.state w.far b there w.told w.moved.holds)
     (c.rounds.invariant.0 k first s far b there told h))
@@ -51,8 +51,8 @@ returns-then-is_done-clause-later g c = later_on _ _ _ _ _ _ c.rounds.invariant.
 
 pub rounds-preserved : goal.rounds-preserved
 rounds-preserved g c = (
-  λ k first s far b there told h. then_on (driver c.args.name.now (g.R.Actor.own c.args.reader.now)) (IsBroken (g.N.Nodes.faults c.args.nodes.now) (g.N.Nodes.faults c.read_turn.new.nodes) (g.N.Nodes.endings c.args.nodes.now) (g.N.Nodes.endings c.read_turn.new.nodes)) k first b {R = Unit {0}} (AreReadRounds c.args.is_sparing c.args.name.now k first (members c.args.set.now) c.rounds.number) (IsReadRound c.args.is_sparing c.args.name.now k first (members c.args.set.now)) (AreReadRounds c.args.is_sparing c.args.name.now k first (members c.args.set.now) (c.rounds.number + 1)) (λ e. IsReadPart c.args.is_sparing c.args.name.now k first (members c.args.set.now)) (λ e. ReadsUntil c.args.is_sparing c.args.name.now k first (members c.args.set.now) c.rounds.number) (IsBroken (g.N.Nodes.faults c.args.nodes.now) (g.N.Nodes.faults c.rounds.nodes) (g.N.Nodes.endings c.args.nodes.now) (g.N.Nodes.endings c.rounds.nodes)) (IsBroken (g.N.Nodes.faults c.rounds.nodes) (g.N.Nodes.faults c.read_turn.new.nodes) (g.N.Nodes.endings c.rounds.nodes) (g.N.Nodes.endings c.read_turn.new.nodes)) (g.N.Nodes.silent c.rounds.nodes ≡ true) (g.N.Nodes.silent c.read_turn.new.nodes ≡ true) (g.R.Actor.stands c.rounds.reader) (g.R.Actor.stands c.read_turn.new.reader) (AllTaken (g.N.Nodes.tells c.rounds.nodes k)) (AllTaken (g.N.Nodes.tells c.read_turn.new.nodes k)) s
-      c.rounds.queues c.read_turn.new.queues (Some (g.O.Sink.written c.args.out.now)) (Some (g.O.Sink.written c.rounds.out)) (Some (g.O.Sink.written c.read_turn.new.out)) (Ok tt) (read_more k c.args.is_sparing c.args.name.now first (members c.args.set.now) c.rounds.number) tt (broken_until _ _ _ _ _ _ c.in_ok-read_turn.ensures.counts) (broken_since _ _ _ _ _ _ c.rounds.invariant.2)
+  λ k first s far b there told h. then_on (driver c.args.name.now (g.R.Actor.own c.args.reader.now)) (IsBroken (g.N.Nodes.faults c.args.nodes.now) (g.N.Nodes.faults c.read_turn.new.nodes) (g.N.Nodes.endings c.args.nodes.now) (g.N.Nodes.endings c.read_turn.new.nodes)) k first b {R = Unit {0}} (AreReadRounds c.args.is_sparing c.args.name.now k first (members c.args.set.now) c.rounds.number (counted (g.N.Nodes.faults c.args.nodes.now) (g.N.Nodes.faults c.rounds.nodes) (g.N.Nodes.endings c.args.nodes.now) (g.N.Nodes.endings c.rounds.nodes))) (IsReadRound c.args.is_sparing c.args.name.now k first (members c.args.set.now) (counted (g.N.Nodes.faults c.rounds.nodes) (g.N.Nodes.faults c.read_turn.new.nodes) (g.N.Nodes.endings c.rounds.nodes) (g.N.Nodes.endings c.read_turn.new.nodes))) (AreReadRounds c.args.is_sparing c.args.name.now k first (members c.args.set.now) (c.rounds.number + 1) (counted (g.N.Nodes.faults c.args.nodes.now) (g.N.Nodes.faults c.read_turn.new.nodes) (g.N.Nodes.endings c.args.nodes.now) (g.N.Nodes.endings c.read_turn.new.nodes))) (λ e. IsReadPart c.args.is_sparing c.args.name.now k first (members c.args.set.now) (counted (g.N.Nodes.faults c.rounds.nodes) (g.N.Nodes.faults c.read_turn.new.nodes) (g.N.Nodes.endings c.rounds.nodes) (g.N.Nodes.endings c.read_turn.new.nodes))) (λ e. ReadsUntil c.args.is_sparing c.args.name.now k first (members c.args.set.now) c.rounds.number (counted (g.N.Nodes.faults c.args.nodes.now) (g.N.Nodes.faults c.read_turn.new.nodes) (g.N.Nodes.endings c.args.nodes.now) (g.N.Nodes.endings c.read_turn.new.nodes))) (IsBroken (g.N.Nodes.faults c.args.nodes.now) (g.N.Nodes.faults c.rounds.nodes) (g.N.Nodes.endings c.args.nodes.now) (g.N.Nodes.endings c.rounds.nodes)) (IsBroken (g.N.Nodes.faults c.rounds.nodes) (g.N.Nodes.faults c.read_turn.new.nodes) (g.N.Nodes.endings c.rounds.nodes) (g.N.Nodes.endings c.read_turn.new.nodes)) (g.N.Nodes.silent c.rounds.nodes ≡ true) (g.N.Nodes.silent c.read_turn.new.nodes ≡ true) (g.R.Actor.stands c.rounds.reader) (g.R.Actor.stands c.read_turn.new.reader) (AllTaken (g.N.Nodes.tells c.rounds.nodes k)) (AllTaken (g.N.Nodes.tells c.read_turn.new.nodes k)) s
+      c.rounds.queues c.read_turn.new.queues (Some (g.O.Sink.written c.args.out.now)) (Some (g.O.Sink.written c.rounds.out)) (Some (g.O.Sink.written c.read_turn.new.out)) (Ok tt) (read_more k c.args.is_sparing c.args.name.now first (members c.args.set.now) c.rounds.number (g.N.Nodes.faults c.args.nodes.now) (g.N.Nodes.faults c.rounds.nodes) (g.N.Nodes.faults c.read_turn.new.nodes) (g.N.Nodes.endings c.args.nodes.now) (g.N.Nodes.endings c.rounds.nodes) (g.N.Nodes.endings c.read_turn.new.nodes) c.rounds.invariant.2 c.in_ok-read_turn.ensures.counts) tt (broken_until _ _ _ _ _ _ c.in_ok-read_turn.ensures.counts) (broken_since _ _ _ _ _ _ c.rounds.invariant.2)
       c.in_ok-read_turn.ensures.silent
       (λ w. c.in_ok-read_turn.ensures.held (g.R.Actor.own c.args.reader.now) c.rounds.invariant.3 k first w.moved.state w.far b there w.told w.moved.holds)
       (c.rounds.invariant.0 k first s far b there told h),

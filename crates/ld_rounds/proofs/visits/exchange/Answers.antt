@@ -3,7 +3,8 @@ use Rattle.std.proofs.lemmas.Result.{err_from_is_err_and}
 use Rattle.ld_rounds.specs.Drives.{IsBroken, WithNode, Answering}
 use Rattle.ld_rounds.specs.Rounds.{Visiting, VisitEnd}
 use Rattle.ld_rounds.proofs.Going.{goes_as, visiting_on}
-use Rattle.ld_rounds.proofs.Visiting.{broken_since, broken_until, has_answered}
+use Rattle.ld_rounds.proofs.Counting.{broken_since, broken_until}
+use Rattle.ld_rounds.proofs.Visiting.{has_answered}
 use Rattle.ld_rounds.proofs.visits.exchange.Goals as goal
 
 pub returns-in_err-due-clause-held : goal.returns-in_err-due-clause-held

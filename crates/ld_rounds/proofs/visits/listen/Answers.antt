@@ -45,7 +45,7 @@ returns-then-not-is_its-clause-held g c who is k first s far b there told h =
     let due = subst (λ (ms : List Msg). AnswersOf y (n + 1) ms) next.first told.2 in
     inr (went_as who (IsBroken (g.N.Nodes.faults c.args.nodes.now) (g.N.Nodes.faults c.receive.new.self) (g.N.Nodes.endings c.args.nodes.now) (g.N.Nodes.endings c.receive.new.self)) k first b (Visiting k y) ⊥ (g.A.Actor.stands a) (λ now. now ≡ record far { answers = next.rest }) (Answering T k y n) s c.args.queues.now w w (λ x. absurd x)
     (λ f e. subst (Answering T k y n) (sym e) (next.told, told.1, rest_due y n m next.rest due))
-    (ignored who ⊥ k first b (g.A.Actor.stands a) (g.met.A.Actor.stands_apart a) s y far c.args.queues.now m next.rest w next.first
+    (ignored who ⊥ k first b (g.A.Actor.stands a) (g.met.A.Actor.stands_apart a) s y far c.args.queues.now m next.rest w (its_own y (n + 1) m next.rest due) next.first
     (takes_is who.takes (g.A.Actor.own a) s m _ _ is.0 (c.is_its.ensures.taken k s h.actor (its_own y (n + 1) m next.rest due)) c.if-not-is_its.true) h))
 
 pub returns-in_err-take-clause-held : goal.returns-in_err-take-clause-held
@@ -58,10 +58,11 @@ returns-in_err-take-clause-held g c who is k first s far b there told h =
     let T = g.N.Nodes.tells c.receive.new.self in
     let next = next_came far (T k) c.in-Ok.next m c.in-Some.is (c.in-Ok.ensures.received k far told.0) in
     let due = subst (λ (ms : List Msg). AnswersOf y (n + 1) ms) next.first told.2 in
-    let taken = takes_is who.takes (g.A.Actor.own c.args.actor.now) s m _ _ is.0 (c.is_its.ensures.taken k s h.actor (its_own y (n + 1) m next.rest due)) c.if-not-is_its.false in
+    let own = its_own y (n + 1) m next.rest due in
+    let taken = takes_is who.takes (g.A.Actor.own c.args.actor.now) s m _ _ is.0 (c.is_its.ensures.taken k s h.actor own) c.if-not-is_its.false in
     rw (p.1, p.2) (inr (goes_as who (IsBroken (g.N.Nodes.faults c.args.nodes.now) (g.N.Nodes.faults c.receive.new.self) (g.N.Nodes.endings c.args.nodes.now) (g.N.Nodes.endings c.receive.new.self)) k first b {R = Bool} (IsDelivered m) (VisitEnd k y) ⊥ (g.A.Actor.stands new) (λ now. now ≡ record far { answers = next.rest }) (Answering T k y n) s c.take.new.queues (Some (g.O.Sink.written c.args.out.now)) (Some (g.O.Sink.written c.take.new.out)) (Err c.in_err-take.field-0.0) (λ x. absurd x)
     (λ f e. subst (Answering T k y n) (sym e) (next.told, told.1, rest_due y n m next.rest due))
-    (c.in_err-take.ensures.held who y k first s far next.rest b taken next.first h)))
+    (c.in_err-take.ensures.held who y k first s far next.rest b own taken next.first h)))
 
 pub returns-then-due-gt0-clause-held : goal.returns-then-due-gt0-clause-held
 returns-then-due-gt0-clause-held g c who is k first s far b there told h =
@@ -72,11 +73,12 @@ returns-then-due-gt0-clause-held g c who is k first s far b there told h =
     let T = g.N.Nodes.tells c.receive.new.self in
     let next = next_came far (T k) c.in-Ok.next m c.in-Some.is (c.in-Ok.ensures.received k far told.0) in
     let due = subst (λ (ms : List Msg). AnswersOf y (n + 1) ms) next.first told.2 in
-    let taken = takes_is who.takes (g.A.Actor.own c.args.actor.now) s m _ _ is.0 (c.is_its.ensures.taken k s h.actor (its_own y (n + 1) m next.rest due)) c.if-not-is_its.false in
+    let own = its_own y (n + 1) m next.rest due in
+    let taken = takes_is who.takes (g.A.Actor.own c.args.actor.now) s m _ _ is.0 (c.is_its.ensures.taken k s h.actor own) c.if-not-is_its.false in
     inr (went_such who (IsBroken (g.N.Nodes.faults c.args.nodes.now) (g.N.Nodes.faults c.receive.new.self) (g.N.Nodes.endings c.args.nodes.now) (g.N.Nodes.endings c.receive.new.self)) k first b ⊥ (IsDelivered m) (Visiting k y) (g.A.Actor.stands new) (λ now. now ≡ record far { answers = next.rest }) (Answering T k y n) s c.take.new.queues (Some (g.O.Sink.written c.args.out.now)) (Some (g.O.Sink.written c.take.new.out)) (λ x. absurd x)
     (λ f e. subst (Answering T k y n) (sym e) (next.told, told.1, rest_due y n m next.rest due))
-    (c.in_ok-take.ensures.held who y k first s far next.rest b taken next.first h)
-    (λ es e x. delivered_visits k y m s es x))
+    (c.in_ok-take.ensures.held who y k first s far next.rest b own taken next.first h)
+    (λ es e x. delivered_visits k y m own s es x))
 
 pub returns-clause-held : goal.returns-clause-held
 returns-clause-held g c who is k first s far b there told h =
@@ -95,9 +97,9 @@ returns-clause-held g c who is k first s far b there told h =
     let taken = takes_is who.takes (g.A.Actor.own c.args.actor.now) s m _ _ is.0 (c.is_its.ensures.taken k s h.actor own) c.if-not-is_its.false in
     let went = went_as who ⊥ k first b (IsDelivered m) ⊥ (g.A.Actor.stands new) (λ now. now ≡ record far { answers = next.rest }) (WithNode T k y) s c.take.new.queues (Some (g.O.Sink.written c.args.out.now)) w (λ x. x)
     (λ f e. subst (WithNode T k y) (sym e) ((next.told, none_due y n next.rest none (rest_due y n m next.rest due)), told.1))
-    (c.in_ok-take.ensures.held who y k first s far next.rest b taken next.first h) in
+    (c.in_ok-take.ensures.held who y k first s far next.rest b own taken next.first h) in
     then_on who broken k first b {R = Bool} (IsDelivered m) (IsReminded y m) (Visiting k y) (RemindEnd y m) (VisitEnd k y) ⊥ ⊥ (g.N.Nodes.silent c.remind.new.nodes ≡ true) (g.N.Nodes.silent c.remind.new.nodes ≡ true) (g.A.Actor.stands new) (g.A.Actor.stands c.remind.new.actor) (WithNode T k y) (Answering U k y (still_due n c.remind.result)) s c.take.new.queues c.take.new.queues (Some (g.O.Sink.written c.args.out.now)) w w c.remind.result
-    (reminded_joins k y m) (each_end c.remind.result (λ e. reminded_joins k y m)) (λ x. absurd x) (λ x. absurd x) (λ quiet. quiet)
+    (reminded_joins k y m own) (each_end c.remind.result (λ e. reminded_joins k y m own)) (λ x. absurd x) (λ x. absurd x) (λ quiet. quiet)
     (λ v. ⊎_elim (λ quiet. inl quiet)
     (λ x. inr (goes_as who ⊥ k first b {R = Bool} (IsReminded y m) (RemindEnd y m) ⊥ (g.A.Actor.stands c.remind.new.actor) (WithNode U k y) (Answering U k y (still_due n c.remind.result)) v.moved.state c.take.new.queues w w c.remind.result (λ z. z) (λ f t. may_answer U k y (still_due n c.remind.result) f t) x))
     (c.remind.ensures.held who (drives_on who (g.A.Actor.own c.args.actor.now) (g.A.Actor.own new) is c.in_ok-take.ensures.itself) k first v.moved.state v.far c.take.new.queues w b there own v.told v.moved.holds)) (inr went)

@@ -9,7 +9,8 @@ use Rattle.ld_rounds.specs.Drives.{IsBroken, Went, GoesOn, WithNode, Answering}
 use Rattle.ld_rounds.specs.Rounds.{Visiting, VisitEnd}
 use Rattle.ld_rounds.proofs.Endings.{later_here, later_on, ending_since}
 use Rattle.ld_rounds.proofs.Going.{went_here, went_as, visiting_on}
-use Rattle.ld_rounds.proofs.Visiting.{drives_on, broken_since, broken_until, later_since, has_answered}
+use Rattle.ld_rounds.proofs.Counting.{broken_since, broken_until, later_since}
+use Rattle.ld_rounds.proofs.Visiting.{drives_on, has_answered}
 use Rattle.ld_rounds.proofs.Listening.{cut_off, on_due, off_due, HasEnded, ended_on, ended_cause, unoff_on, listened, listened_cut, ended_goes}
 use Rattle.ld_rounds.proofs.visits.listen_all.Goals as goal
 

@@ -5,7 +5,8 @@ use Rattle.ld_rounds.specs.Reminding.{reminded}
 use Rattle.ld_rounds.specs.Rounds.{IsReminded, RemindEnd}
 use Rattle.ld_rounds.proofs.Endings.{none_off}
 use Rattle.ld_rounds.proofs.Going.{halted, went_by}
-use Rattle.ld_rounds.proofs.Visiting.{drives_on, later_since, sent_later}
+use Rattle.ld_rounds.proofs.Counting.{later_since}
+use Rattle.ld_rounds.proofs.Visiting.{drives_on, sent_later}
 use Rattle.ld_rounds.proofs.Reminding.{Open, open_first, open_last, open_next, open_off, reminder_to, broken_off}
 use Rattle.ld_rounds.proofs.visits.remind.Goals as goal
 

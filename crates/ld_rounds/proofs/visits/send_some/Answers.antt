@@ -8,7 +8,8 @@ use Rattle.ld_rounds.specs.Drives.{IsBroken, Went, GoesOn, Answering}
 use Rattle.ld_rounds.specs.Rounds.{Visiting, VisitEnd}
 use Rattle.ld_rounds.proofs.Queueing.{none_taken, taken_more, taken_within}
 use Rattle.ld_rounds.proofs.Going.{went_here, visiting_on}
-use Rattle.ld_rounds.proofs.Visiting.{broken_since, broken_until, later_since, fronted, not_taken, may_answer}
+use Rattle.ld_rounds.proofs.Counting.{broken_since, broken_until, later_since}
+use Rattle.ld_rounds.proofs.Visiting.{fronted, not_taken, may_answer}
 use Rattle.ld_rounds.proofs.visits.send_some.Goals as goal
 
 pub messages-init : goal.messages-init

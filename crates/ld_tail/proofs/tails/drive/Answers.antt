@@ -7,7 +7,7 @@ use Rattle.ld_msg.specs.Reader.{is_single}
 use Rattle.ld_msg.specs.Register.{Register as Contents}
 use Rattle.ld_rounds.specs.declared.ended.Ended.{Ended}
 use Rattle.ld_rounds.specs.Ends.{IsSaid}
-use Rattle.ld_rounds.specs.Drives.{Driver, AllTaken, IsBroken, Holds}
+use Rattle.ld_rounds.specs.Drives.{Driver, AllTaken, IsBroken, Holds, counted}
 use Rattle.ld_rounds.specs.Taking.{TookReads}
 use Rattle.ld_rounds.proofs.Visiting.{all_there}
 use Rattle.ld_rounds.proofs.Endings.{cause_since, none_off}
@@ -23,17 +23,17 @@ use Rattle.ld_tail.proofs.tails.drive.Goals as goal
 pub returns-in_default-clause-drove : goal.returns-in_default-clause-drove
 returns-in_default-clause-drove g c s far told h =
     let a = c.args.reading.now in
-    inr (stopped_here (tailing (record { name = c.args.name.now; log = a.log; from = c.args.from; until = c.args.until; style = c.args.style })) (IsBroken (g.N.Nodes.faults c.args.nodes.now) (g.N.Nodes.faults c.args.nodes.now) (g.N.Nodes.endings c.args.nodes.now) (g.N.Nodes.endings c.args.nodes.now)) c.args.config.now s.network.count c.requires.bounds (EndAt (record { name = c.args.name.now; log = a.log; from = c.args.from; until = c.args.until; style = c.args.style }) c.args.config.now s.network.count c.args.rounds) s (Some (g.O.Sink.written c.args.out.now)) (inl (inl refl)))
+    inr (stopped_here (tailing (record { name = c.args.name.now; log = a.log; from = c.args.from; until = c.args.until; style = c.args.style })) (IsBroken (g.N.Nodes.faults c.args.nodes.now) (g.N.Nodes.faults c.args.nodes.now) (g.N.Nodes.endings c.args.nodes.now) (g.N.Nodes.endings c.args.nodes.now)) c.args.config.now s.network.count c.requires.bounds (EndAt (record { name = c.args.name.now; log = a.log; from = c.args.from; until = c.args.until; style = c.args.style }) c.args.config.now s.network.count c.args.rounds (counted (g.N.Nodes.faults c.args.nodes.now) (g.N.Nodes.faults c.args.nodes.now) (g.N.Nodes.endings c.args.nodes.now) (g.N.Nodes.endings c.args.nodes.now))) s (Some (g.O.Sink.written c.args.out.now)) (inl (inl refl)))
 
 pub returns-in_default-new-clause-drove : goal.returns-in_default-new-clause-drove
 returns-in_default-new-clause-drove g c s far told h =
     let a = c.args.reading.now in
-    inr (stopped_here (tailing (record { name = c.args.name.now; log = a.log; from = c.args.from; until = c.args.until; style = c.args.style })) (IsBroken (g.N.Nodes.faults c.args.nodes.now) (g.N.Nodes.faults c.args.nodes.now) (g.N.Nodes.endings c.args.nodes.now) (g.N.Nodes.endings c.args.nodes.now)) c.args.config.now s.network.count c.requires.bounds (EndAt (record { name = c.args.name.now; log = a.log; from = c.args.from; until = c.args.until; style = c.args.style }) c.args.config.now s.network.count c.args.rounds) s (Some (g.O.Sink.written c.args.out.now)) (inl (inl refl)))
+    inr (stopped_here (tailing (record { name = c.args.name.now; log = a.log; from = c.args.from; until = c.args.until; style = c.args.style })) (IsBroken (g.N.Nodes.faults c.args.nodes.now) (g.N.Nodes.faults c.args.nodes.now) (g.N.Nodes.endings c.args.nodes.now) (g.N.Nodes.endings c.args.nodes.now)) c.args.config.now s.network.count c.requires.bounds (EndAt (record { name = c.args.name.now; log = a.log; from = c.args.from; until = c.args.until; style = c.args.style }) c.args.config.now s.network.count c.args.rounds (counted (g.N.Nodes.faults c.args.nodes.now) (g.N.Nodes.faults c.args.nodes.now) (g.N.Nodes.endings c.args.nodes.now) (g.N.Nodes.endings c.args.nodes.now))) s (Some (g.O.Sink.written c.args.out.now)) (inl (inl refl)))
 
 pub returns-in_default-open-clause-drove : goal.returns-in_default-open-clause-drove
 returns-in_default-open-clause-drove g c s far told h =
     let a = c.args.reading.now in
-    inr (stopped_here (tailing (record { name = c.args.name.now; log = a.log; from = c.args.from; until = c.args.until; style = c.args.style })) (IsBroken (g.N.Nodes.faults c.args.nodes.now) (g.N.Nodes.faults c.args.nodes.now) (g.N.Nodes.endings c.args.nodes.now) (g.N.Nodes.endings c.args.nodes.now)) c.args.config.now s.network.count c.requires.bounds (EndAt (record { name = c.args.name.now; log = a.log; from = c.args.from; until = c.args.until; style = c.args.style }) c.args.config.now s.network.count c.args.rounds) s (Some (g.O.Sink.written c.args.out.now)) (inl (inl refl)))
+    inr (stopped_here (tailing (record { name = c.args.name.now; log = a.log; from = c.args.from; until = c.args.until; style = c.args.style })) (IsBroken (g.N.Nodes.faults c.args.nodes.now) (g.N.Nodes.faults c.args.nodes.now) (g.N.Nodes.endings c.args.nodes.now) (g.N.Nodes.endings c.args.nodes.now)) c.args.config.now s.network.count c.requires.bounds (EndAt (record { name = c.args.name.now; log = a.log; from = c.args.from; until = c.args.until; style = c.args.style }) c.args.config.now s.network.count c.args.rounds (counted (g.N.Nodes.faults c.args.nodes.now) (g.N.Nodes.faults c.args.nodes.now) (g.N.Nodes.endings c.args.nodes.now) (g.N.Nodes.endings c.args.nodes.now))) s (Some (g.O.Sink.written c.args.out.now)) (inl (inl refl)))
 
 pub returns-in_err-tell-clause-drove : goal.returns-in_err-tell-clause-drove
 returns-in_err-tell-clause-drove g c s far told h =
@@ -55,7 +55,7 @@ returns-in_err-tell-clause-drove g c s far told h =
     let new = Some (g.O.Sink.written c.tell.new.out) in
     let e = c.in_err-tell.field-0.0 in
     let stops = opened_on (tailing (record { name = c.args.name.now; log = a.log; from = c.args.from; until = c.args.until; style = c.args.style })) (IsBroken (g.N.Nodes.faults c.args.nodes.now) (g.N.Nodes.faults c.args.nodes.now) (g.N.Nodes.endings c.args.nodes.now) (g.N.Nodes.endings c.args.nodes.now)) k c.requires.bounds T first [] z.readers U s far c.in-Ok-new.queues c.tell.new.queues old new heard begins (Err e) c.in_err-tell.ensures.told (unframed_end heard.end c.in-Ok-open.ensures.goes_on) (AllTaken (g.N.Nodes.tells c.args.nodes.now k)) (told, h.answers) c.args.style a.log c.args.from c.args.until until acted in
-    rw (p.1, p.2) (inr (stopped_tail (record { name = c.args.name.now; log = a.log; from = c.args.from; until = c.args.until; style = c.args.style }) (IsBroken (g.N.Nodes.faults c.args.nodes.now) (g.N.Nodes.faults c.args.nodes.now) (g.N.Nodes.endings c.args.nodes.now) (g.N.Nodes.endings c.args.nodes.now)) c.args.rounds (g.N.Nodes.tells c.args.nodes.now) k c.requires.bounds s z.readers U c.tell.new.queues old new e stops))
+    rw (p.1, p.2) (inr (stopped_tail (record { name = c.args.name.now; log = a.log; from = c.args.from; until = c.args.until; style = c.args.style }) (counted (g.N.Nodes.faults c.args.nodes.now) (g.N.Nodes.faults c.args.nodes.now) (g.N.Nodes.endings c.args.nodes.now) (g.N.Nodes.endings c.args.nodes.now)) c.args.rounds (g.N.Nodes.tells c.args.nodes.now) k c.requires.bounds s z.readers U c.tell.new.queues old new e stops))
 
 pub returns-clause-drove : goal.returns-clause-drove
 returns-clause-drove g c s far told h =
@@ -77,9 +77,9 @@ returns-clause-drove g c s far told h =
     let new = Some (g.O.Sink.written c.read.new.out) in
     let N = AllTaken (g.N.Nodes.tells c.args.nodes.now k) in
     let v = opened_on (tailing (record { name = c.args.name.now; log = a.log; from = c.args.from; until = c.args.until; style = c.args.style })) (IsBroken (g.N.Nodes.faults c.args.nodes.now) (g.N.Nodes.faults c.read.new.nodes) (g.N.Nodes.endings c.args.nodes.now) (g.N.Nodes.endings c.read.new.nodes)) k c.requires.bounds T first [] z.readers U s far c.in-Ok-new.queues c.tell.new.queues old mid heard begins (Ok tt) c.in_ok-tell.ensures.told (unframed_end heard.end c.in-Ok-open.ensures.goes_on) N (told, h.answers) c.args.style a.log c.args.from c.args.until until acted in
-    drove_loud (record { name = c.args.name.now; log = a.log; from = c.args.from; until = c.args.until; style = c.args.style }) (IsBroken (g.N.Nodes.faults c.args.nodes.now) (g.N.Nodes.faults c.read.new.nodes) (g.N.Nodes.endings c.args.nodes.now) (g.N.Nodes.endings c.read.new.nodes)) c.args.rounds (g.N.Nodes.tells c.read.new.nodes) k c.requires.bounds s c.read.new.reader.readers (g.G.Register.tells c.read.new.reader.register) c.read.new.queues old new (Follows z.readers U) N c.tell.new.queues mid v
-    (g.N.Nodes.silent c.read.new.nodes ≡ true) c.read.result c.read.ensures.finished c.read.ensures.unfinished (subst (λ (d : Driver). (g.N.Nodes.silent c.read.new.nodes ≡ true) ⊎ TookReads (is_single c.args.style) d (IsBroken (g.N.Nodes.faults c.args.nodes.now) (g.N.Nodes.faults c.read.new.nodes) (g.N.Nodes.endings c.args.nodes.now) (g.N.Nodes.endings c.read.new.nodes)) (members k.nodes) c.args.rounds (Follows c.read.new.reader.readers (g.G.Register.tells c.read.new.reader.register)) (AllTaken (g.N.Nodes.tells c.read.new.nodes k)) k first v.moved.state c.read.new.queues mid new c.read.result)
-    (ap (λ (l : ℕ). tailing (record { name = c.args.name.now; log = l; from = c.args.from; until = c.args.until; style = c.args.style })) (c.in-Ok-open.ensures.log ∙ c.in-Ok.ensures.log)) (subst (λ (single : Bool). (g.N.Nodes.silent c.read.new.nodes ≡ true) ⊎ TookReads single (tailing (record { name = c.args.name.now; log = z.log; from = c.args.from; until = c.args.until; style = c.args.style })) (IsBroken (g.N.Nodes.faults c.args.nodes.now) (g.N.Nodes.faults c.read.new.nodes) (g.N.Nodes.endings c.args.nodes.now) (g.N.Nodes.endings c.read.new.nodes)) (members k.nodes) c.args.rounds (Follows c.read.new.reader.readers (g.G.Register.tells c.read.new.reader.register)) (AllTaken (g.N.Nodes.tells c.read.new.nodes k)) k first v.moved.state c.read.new.queues mid new c.read.result)
+    drove_loud (record { name = c.args.name.now; log = a.log; from = c.args.from; until = c.args.until; style = c.args.style }) (counted (g.N.Nodes.faults c.args.nodes.now) (g.N.Nodes.faults c.read.new.nodes) (g.N.Nodes.endings c.args.nodes.now) (g.N.Nodes.endings c.read.new.nodes)) c.args.rounds (g.N.Nodes.tells c.read.new.nodes) k c.requires.bounds s c.read.new.reader.readers (g.G.Register.tells c.read.new.reader.register) c.read.new.queues old new (Follows z.readers U) N c.tell.new.queues mid v
+    (g.N.Nodes.silent c.read.new.nodes ≡ true) c.read.result c.read.ensures.finished c.read.ensures.unfinished (subst (λ (d : Driver). (g.N.Nodes.silent c.read.new.nodes ≡ true) ⊎ TookReads (is_single c.args.style) d (counted (g.N.Nodes.faults c.args.nodes.now) (g.N.Nodes.faults c.read.new.nodes) (g.N.Nodes.endings c.args.nodes.now) (g.N.Nodes.endings c.read.new.nodes)) (members k.nodes) c.args.rounds (Follows c.read.new.reader.readers (g.G.Register.tells c.read.new.reader.register)) (AllTaken (g.N.Nodes.tells c.read.new.nodes k)) k first v.moved.state c.read.new.queues mid new c.read.result)
+    (ap (λ (l : ℕ). tailing (record { name = c.args.name.now; log = l; from = c.args.from; until = c.args.until; style = c.args.style })) (c.in-Ok-open.ensures.log ∙ c.in-Ok.ensures.log)) (subst (λ (single : Bool). (g.N.Nodes.silent c.read.new.nodes ≡ true) ⊎ TookReads single (tailing (record { name = c.args.name.now; log = z.log; from = c.args.from; until = c.args.until; style = c.args.style })) (counted (g.N.Nodes.faults c.args.nodes.now) (g.N.Nodes.faults c.read.new.nodes) (g.N.Nodes.endings c.args.nodes.now) (g.N.Nodes.endings c.read.new.nodes)) (members k.nodes) c.args.rounds (Follows c.read.new.reader.readers (g.G.Register.tells c.read.new.reader.register)) (AllTaken (g.N.Nodes.tells c.read.new.nodes k)) k first v.moved.state c.read.new.queues mid new c.read.result)
     c.is_single.ensures (c.read.ensures.held k first v.moved.state v.far c.requires.bounds (all_there k) v.told v.moved.holds)))
 
 pub returns-clause-cause : goal.returns-clause-cause

@@ -1,8 +1,10 @@
 use Rattle.std.proofs.Common.{◌≡◌, ◌⊎◌, ℕ, refl, sym, ap, ◌∙◌, subst, inl, inr, None, true, Some}
 use Rattle.ld_rounds.specs.declared.ended.Ended.{Ended}
-use Rattle.ld_rounds.specs.Drives.{IsBroken}
+use Rattle.ld_rounds.specs.declared.ended.Ended.TheVariants as ends
+use Rattle.ld_rounds.specs.Drives.{IsBroken, counted}
 use Rattle.ld_rounds.specs.Endings.{IsOffAs, EndedOff}
 use Rattle.ld_rounds.specs.Reaching.{Begins}
+use Rattle.ld_rounds.specs.Onward.{reached}
 use Rattle.ld_rounds.proofs.Going.{stopped_here}
 use Rattle.ld_rounds.proofs.Endings.{none_ended}
 use Rattle.ld_rounds.specs.Refusals.{HeldNone}
@@ -10,11 +12,12 @@ use Rattle.ld_tail.specs.Looking.{IsLookEnd, HasLooked, why_of}
 use Rattle.ld_tail.specs.Tails.{HasNone, EndAt, IsTailed, IsTailEnd, DroveTail, tailing}
 use Rattle.ld_tail.proofs.Looked.{why_is}
 use Rattle.ld_tail.proofs.Tailing.{tail_end, end_off, end_ended, tailed_loud}
+use Rattle.ld_tail.proofs.Onward.{run_loud}
 use Rattle.ld_tail.proofs.tails.tail.Goals as goal
 
 pub returns-in_default-clause-tailed : goal.returns-in_default-clause-tailed
 returns-in_default-clause-tailed g c s far told h =
-    inr (stopped_here (tailing (record { name = c.args.name; log = c.args.log; from = c.args.from; until = c.args.until; style = c.args.style })) (IsBroken (g.N.Nodes.faults c.args.nodes.now) (g.N.Nodes.faults c.args.nodes.now) (g.N.Nodes.endings c.args.nodes.now) (g.N.Nodes.endings c.args.nodes.now)) c.args.config.now s.network.count c.requires (EndAt (record { name = c.args.name; log = c.args.log; from = c.args.from; until = c.args.until; style = c.args.style }) c.args.config.now s.network.count c.args.rounds) s (Some (g.O.Sink.written c.args.out.now)) (inl (inl refl)))
+    inr (stopped_here (tailing (record { name = c.args.name; log = c.args.log; from = c.args.from; until = c.args.until; style = c.args.style })) (IsBroken (g.N.Nodes.faults c.args.nodes.now) (g.N.Nodes.faults c.args.nodes.now) (g.N.Nodes.endings c.args.nodes.now) (g.N.Nodes.endings c.args.nodes.now)) c.args.config.now s.network.count c.requires (EndAt (record { name = c.args.name; log = c.args.log; from = c.args.from; until = c.args.until; style = c.args.style }) c.args.config.now s.network.count c.args.rounds (counted (g.N.Nodes.faults c.args.nodes.now) (g.N.Nodes.faults c.args.nodes.now) (g.N.Nodes.endings c.args.nodes.now) (g.N.Nodes.endings c.args.nodes.now))) s (Some (g.O.Sink.written c.args.out.now)) (inl (inl refl)))
 
 pub returns-clause-tailed : goal.returns-clause-tailed
 returns-clause-tailed g c s far told h =
@@ -30,10 +33,20 @@ returns-clause-tailed g c s far told h =
     let old = Some (g.O.Sink.written c.args.out.now) in
     let new = Some (g.O.Sink.written c.drive-driven.new.out) in
     let begins = subst (λ q. Begins (HasNone (g.G.Register.tells q)) k s far) (sym c.new-reading.ensures.register) h in
-    let drove = subst (λ (l : ℕ). (g.N.Nodes.silent c.drive-driven.new.nodes ≡ true) ⊎ DroveTail (record { name = c.args.name; log = l; from = c.args.from; until = c.args.until; style = c.args.style }) (IsBroken (g.N.Nodes.faults c.args.nodes.now) (g.N.Nodes.faults c.drive-driven.new.nodes) (g.N.Nodes.endings c.args.nodes.now) (g.N.Nodes.endings c.drive-driven.new.nodes)) c.args.rounds (g.N.Nodes.tells c.drive-driven.new.nodes) (g.G.Register.tells y.register) k s old new c.drive-driven.result) c.new-reading.ensures.log (c.drive-driven.ensures.drove s far told begins) in
-    let drove_here = subst (λ q. (g.N.Nodes.silent c.drive-driven.new.nodes ≡ true) ⊎ DroveTail (record { name = c.args.name; log = c.args.log; from = c.args.from; until = c.args.until; style = c.args.style }) (IsBroken (g.N.Nodes.faults c.args.nodes.now) (g.N.Nodes.faults c.drive-driven.new.nodes) (g.N.Nodes.endings c.args.nodes.now) (g.N.Nodes.endings c.drive-driven.new.nodes)) c.args.rounds (g.N.Nodes.tells c.drive-driven.new.nodes) (g.G.Register.tells q) k s old new c.drive-driven.result) (sym c.into_register.ensures) drove in
-    subst (λ (e : Ended). (g.N.Nodes.silent c.drive-driven.new.nodes ≡ true) ⊎ IsTailed (record { name = c.args.name; log = c.args.log; from = c.args.from; until = c.args.until; style = c.args.style }) (IsBroken (g.N.Nodes.faults c.args.nodes.now) (g.N.Nodes.faults c.drive-driven.new.nodes) (g.N.Nodes.endings c.args.nodes.now) (g.N.Nodes.endings c.drive-driven.new.nodes)) c.args.rounds (g.N.Nodes.tells c.drive-driven.new.nodes) (g.G.Register.tells x) k s old new e) (sym c.end_of-ended.ensures)
-    (tailed_loud (λ place. g.G.Register.told r → g.G.Register.damaged r place) (g.G.Register.faults r) (g.G.Register.faults x) (g.O.Sink.faults c.args.out.now) (g.O.Sink.faults c.drive-driven.new.out) (record { name = c.args.name; log = c.args.log; from = c.args.from; until = c.args.until; style = c.args.style }) (IsBroken (g.N.Nodes.faults c.args.nodes.now) (g.N.Nodes.faults c.drive-driven.new.nodes) (g.N.Nodes.endings c.args.nodes.now) (g.N.Nodes.endings c.drive-driven.new.nodes)) c.args.rounds (g.N.Nodes.tells c.drive-driven.new.nodes) (g.G.Register.tells x) k s old new (g.N.Nodes.silent c.drive-driven.new.nodes ≡ true) c.drive-driven.result c.why_of.result why drove_here)
+    let drove = subst (λ (l : ℕ). (g.N.Nodes.silent c.drive-driven.new.nodes ≡ true) ⊎ DroveTail (record { name = c.args.name; log = l; from = c.args.from; until = c.args.until; style = c.args.style }) (counted (g.N.Nodes.faults c.args.nodes.now) (g.N.Nodes.faults c.drive-driven.new.nodes) (g.N.Nodes.endings c.args.nodes.now) (g.N.Nodes.endings c.drive-driven.new.nodes)) c.args.rounds (g.N.Nodes.tells c.drive-driven.new.nodes) (g.G.Register.tells y.register) k s old new c.drive-driven.result) c.new-reading.ensures.log (c.drive-driven.ensures.drove s far told begins) in
+    let drove_here = subst (λ q. (g.N.Nodes.silent c.drive-driven.new.nodes ≡ true) ⊎ DroveTail (record { name = c.args.name; log = c.args.log; from = c.args.from; until = c.args.until; style = c.args.style }) (counted (g.N.Nodes.faults c.args.nodes.now) (g.N.Nodes.faults c.drive-driven.new.nodes) (g.N.Nodes.endings c.args.nodes.now) (g.N.Nodes.endings c.drive-driven.new.nodes)) c.args.rounds (g.N.Nodes.tells c.drive-driven.new.nodes) (g.G.Register.tells q) k s old new c.drive-driven.result) (sym c.into_register.ensures) drove in
+    subst (λ (e : Ended). (g.N.Nodes.silent c.drive-driven.new.nodes ≡ true) ⊎ IsTailed (record { name = c.args.name; log = c.args.log; from = c.args.from; until = c.args.until; style = c.args.style }) (counted (g.N.Nodes.faults c.args.nodes.now) (g.N.Nodes.faults c.drive-driven.new.nodes) (g.N.Nodes.endings c.args.nodes.now) (g.N.Nodes.endings c.drive-driven.new.nodes)) c.args.rounds (g.N.Nodes.tells c.drive-driven.new.nodes) (g.G.Register.tells x) k s old new e) (sym c.end_of-ended.ensures)
+    (tailed_loud (λ place. g.G.Register.told r → g.G.Register.damaged r place) (g.G.Register.faults r) (g.G.Register.faults x) (g.O.Sink.faults c.args.out.now) (g.O.Sink.faults c.drive-driven.new.out) (record { name = c.args.name; log = c.args.log; from = c.args.from; until = c.args.until; style = c.args.style }) (counted (g.N.Nodes.faults c.args.nodes.now) (g.N.Nodes.faults c.drive-driven.new.nodes) (g.N.Nodes.endings c.args.nodes.now) (g.N.Nodes.endings c.drive-driven.new.nodes)) c.args.rounds (g.N.Nodes.tells c.drive-driven.new.nodes) (g.G.Register.tells x) k s old new (g.N.Nodes.silent c.drive-driven.new.nodes ≡ true) c.drive-driven.result c.why_of.result why drove_here)
+
+pub returns-in_default-clause-safe : goal.returns-in_default-clause-safe
+returns-in_default-clause-safe g c before far told h =
+    run_loud (record { name = c.args.name; log = c.args.log; from = c.args.from; until = c.args.until; style = c.args.style }) (counted (g.N.Nodes.faults c.args.nodes.now) (g.N.Nodes.faults c.args.nodes.now) (g.N.Nodes.endings c.args.nodes.now) (g.N.Nodes.endings c.args.nodes.now)) c.args.rounds (g.N.Nodes.tells c.args.nodes.now) (g.G.Register.tells c.args.register) c.args.config.now c.requires before (Some (g.O.Sink.written c.args.out.now)) (Some (g.O.Sink.written c.args.out.now)) (g.N.Nodes.silent c.args.nodes.now ≡ true) ends.NoMemory
+    (returns-in_default-clause-tailed g c (reached c.args.config.now before) far told h)
+
+pub returns-clause-safe : goal.returns-clause-safe
+returns-clause-safe g c before far told h =
+    run_loud (record { name = c.args.name; log = c.args.log; from = c.args.from; until = c.args.until; style = c.args.style }) (counted (g.N.Nodes.faults c.args.nodes.now) (g.N.Nodes.faults c.drive-driven.new.nodes) (g.N.Nodes.endings c.args.nodes.now) (g.N.Nodes.endings c.drive-driven.new.nodes)) c.args.rounds (g.N.Nodes.tells c.drive-driven.new.nodes) (g.G.Register.tells c.into_register.result) c.args.config.now c.requires before (Some (g.O.Sink.written c.args.out.now)) (Some (g.O.Sink.written c.drive-driven.new.out)) (g.N.Nodes.silent c.drive-driven.new.nodes ≡ true) c.end_of-ended.result
+    (returns-clause-tailed g c (reached c.args.config.now before) far told h)
 
 pub returns-clause-cause : goal.returns-clause-cause
 returns-clause-cause g c =
