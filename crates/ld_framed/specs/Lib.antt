@@ -1,3 +1,4 @@
 pub mod Hearing
 pub mod Reading
 pub mod Reads
+pub mod Writes

@@ -1,11 +1,12 @@
 // Frames of the present peer.
-ghost use Rattle.std.specs.Prelude.{◌≡◌, ◌<◌, List, ℕ, length, None, Some, false, IfSome, IfOk, IfErr, OnOk, MatchResult, MatchBool};
+ghost use Rattle.std.specs.Prelude.{◌≡◌, ◌<◌, List, ℕ, [], ◌∷◌, length, None, Some, false, IfSome, IfOk, IfErr, MatchResult, MatchBool};
 ghost use Rattle.ld_msg.specs.Bounds.{IsMessage};
 ghost use Rattle.ld_wire.specs.Judging.{judge};
 ghost use Rattle.ld_wire.specs.Faults.{IsRefused};
 ghost use Rattle.ld_wire.specs.Held.{kept_fault};
 ghost use Rattle.ld_framed.specs.Hearing.{Hears, HearsNext, HearsSome, IsAtEnd};
-ghost use Rattle.ld_framed.specs.Reads.{ReadsOnce, ReadsWaiting, held_before};
+ghost use Rattle.ld_link.specs.Calls.{read};
+ghost use Rattle.ld_framed.specs.Reads.{ReadsOnce, ReadsAtMostOnce, ReadsNext, ReadsSome};
 ghost use Rattle.ld_framed.specs.Reading.{IsUnread, CountsUnread, fault_of, fault_in};
 
 use crate::Unread;
@@ -20,7 +21,9 @@ fn fill<L: Link>(decoder: &mut Decoder, link: &mut L, buf: &mut [u8]) -> Result<
     ensures len { length buf.new ≡ length buf.old }
     ensures more { IfOk result (λ some. MatchBool some (length decoder.old.bytes < length decoder.new.bytes) (decoder.new ≡ decoder.old)) }
     ensures fault { decoder.new.fault ≡ decoder.old.fault }
-    ensures once { OnOk result (ReadsOnce (L.did link.old) (L.did link.new) decoder.old.bytes decoder.new.bytes) }
+    ensures reads { MatchResult result
+        (λ some. MatchBool some (ReadsOnce (L.did link.old) (L.did link.new) decoder.old.bytes decoder.new.bytes) (L.did link.new ≡ read [] ∷ L.did link.old))
+        (λ _. ReadsAtMostOnce (L.did link.old) (L.did link.new) decoder.old.bytes) }
     ensures heard { IfSome (L.peers link.old) (λ old. MatchResult result
         (λ some. Hears old (L.peers link.new) decoder.old.bytes decoder.new.bytes × (some ≡ false → IsAtEnd (L.peers link.new)))
         (λ unread. HearsSome old (L.peers link.new) decoder.old.bytes (λ held. IsUnread held unread))) }
@@ -71,7 +74,9 @@ pub fn next_frame<L: Link>(
     ensures heard { IfSome (L.peers link.old) (λ old. MatchResult result
         (HearsNext old (L.peers link.new) decoder.old.bytes decoder.new)
         (λ unread. HearsSome old (L.peers link.new) decoder.old.bytes (λ held. IsUnread held unread))) }
-    ensures waiting { IfOk result (λ next. ReadsWaiting (L.did link.old) decoder.old.bytes (L.did link.new) (held_before next decoder.new.bytes)) }
+    ensures waiting { MatchResult result
+        (ReadsNext (L.did link.old) (L.did link.new) decoder.old.bytes decoder.new.bytes)
+        (λ unread. ReadsSome (L.did link.old) (L.did link.new) decoder.old.bytes (λ held. IsUnread held unread)) }
     ensures cause { IfErr result (λ unread. (held : List ℕ) × IsUnread held unread) }
     ensures message { IfOk result (λ next. IfSome next IsMessage) }
     ensures fault { decoder.new.fault ≡ fault_in result }

@@ -8,6 +8,10 @@ use Rattle.ld_past.specs.Events.{Event, event_of}
 abbrev pub came : Event
 came = event_of (0 ∷ []) []
 
+-- there was no next peer
+abbrev pub nobody : Event
+nobody = event_of (4 ∷ []) []
+
 -- the node of this number was dialed
 abbrev pub dialed : ℕ → Event
 dialed node = event_of (1 ∷ node ∷ []) []
@@ -22,7 +26,7 @@ wrote bytes = event_of (3 ∷ []) bytes
 
 abbrev pub after_next : {E : Type 0} → Result Bool E → List Event → List Event
 after_next (Ok true) did = came ∷ did
-after_next (Ok false) did = did
+after_next (Ok false) did = nobody ∷ did
 after_next (Err e) did = did
 
 abbrev pub after_read : {E : Type 0} → Result ℕ E → List ℕ → List Event → List Event

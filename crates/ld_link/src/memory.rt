@@ -167,7 +167,10 @@ impl Link for MemLink {
                 self.did.note(&[0], &[]);
                 Ok(true)
             }
-            None => Ok(false),
+            None => {
+                self.did.note(&[4], &[]);
+                Ok(false)
+            }
         }
     }
 

@@ -3,7 +3,7 @@ use Rattle.std.proofs.Common.{refl, ap, sym, ◌∙◌, subst, length, arith}
 use Rattle.std.proofs.lemmas.Result.{err_from_is_err_and}
 use Rattle.ld_wire.specs.Faults.{IsRefused}
 use Rattle.ld_wire.specs.Held.{kept_fault}
-use Rattle.ld_framed.proofs.Waiting.{goes_on, itself}
+use Rattle.ld_framed.proofs.Waiting.{goes_on, ends_on, fails_in, itself}
 use Rattle.ld_framed.proofs.Hearing.{fails_here, fails_on, judged, next_on, the_first, untouched_at}
 use Rattle.ld_framed.proofs.input.next_frame.Goals as goal
 
@@ -35,7 +35,7 @@ pieces-preserved g c =
       c.in_ok-fill.ensures.fault ∙ ap (λ h. h.fault) same ∙ c.pieces.invariant.1,
       c.in_ok-fill.ensures.len ∙ c.pieces.invariant.2,
       c.in_ok-fill.ensures.counts ∙ c.pieces.invariant.3,
-      goes_on _ _ _ _ _ c.pieces.decoder c.take.new.self c.pieces.invariant.1 same none.0 c.pieces.invariant.4 c.in_ok-fill.ensures.once,
+      goes_on _ _ _ _ _ c.pieces.decoder c.take.new.self c.pieces.invariant.1 same none.0 c.pieces.invariant.4 (rw c.if-not-branch.false at c.in_ok-fill.ensures.reads),
     )
 
 pub returns-in-Err-clause-cause : goal.returns-in-Err-clause-cause
@@ -66,4 +66,19 @@ pieces-init g c = (untouched_at _ _ c.args.decoder.now.bytes (itself _), c.requi
 pub returns-then-not-branch-clause-waiting : goal.returns-then-not-branch-clause-waiting
 returns-then-not-branch-clause-waiting g c =
     let none = rw c.in-Ok-None.field-0-is at c.in-Ok-None.ensures.none in
-    goes_on _ _ _ _ _ c.pieces.decoder c.take.new.self c.pieces.invariant.1 none.1 none.0 c.pieces.invariant.4 c.in_ok-fill.ensures.once
+    let still = rw c.if-not-branch.true at c.in_ok-fill.ensures.more in
+    let ends = rw c.if-not-branch.true at c.in_ok-fill.ensures.reads in
+    ends_on _ _ _ _ c.pieces.decoder c.take.new.self c.fill.new.decoder c.pieces.invariant.1 none.1 none.0 c.pieces.invariant.4 still ends
+
+pub returns-in-Err-clause-waiting : goal.returns-in-Err-clause-waiting
+returns-in-Err-clause-waiting g c = record {
+  held = c.pieces.decoder.bytes;
+  reads = c.pieces.invariant.4;
+  cause = c.unread_of.ensures.told c.pieces.decoder.bytes (subst (λ r. IsRefused r c.in-Err.fault) (judged c.pieces.decoder c.pieces.invariant.1) c.in-Err.ensures.fault.0);
+}
+
+pub returns-in_err-fill-clause-waiting : goal.returns-in_err-fill-clause-waiting
+returns-in_err-fill-clause-waiting g c =
+    let p = err_from_is_err_and c.from_residual.result c.from_residual.ensures.1 in
+    let none = rw c.in-Ok-None.field-0-is at c.in-Ok-None.ensures.none in
+    rw (p.1, p.2) (fails_in _ _ _ _ c.pieces.decoder c.take.new.self _ c.pieces.invariant.1 none.1 none.0 c.pieces.invariant.4 c.in_err-fill.ensures.reads c.in_err-fill.ensures.cause)
