@@ -1,7 +1,7 @@
 -- Calls of members, one after the other.
-use Rattle.std.proofs.Common.{◌≡◌, ℕ, List, [], ◌∷◌, ◌++◌, refl, ap, sym, ◌∙◌, subst, append_assoc}
+use Rattle.std.proofs.Common.{◌≡◌, ℕ, List, [], ◌∷◌, ◌++◌, refl, ap, sym, ◌∙◌, append_assoc}
 use Rattle.ld_past.specs.Events.{Event}
-use Rattle.ld_etcd.specs.Request.{IsAsk, AreAsks, Asks, IsRequest, asking, connecting, connects, sends}
+use Rattle.ld_etcd.specs.Request.{AreAsks, Asks, IsRequest, asking, connecting, connects, sends}
 
 pub asks_none : (path body : List ℕ) (did : List Event) → Asks path body did did
 asks_none path body did = record { more = []; is = refl; all = tt }

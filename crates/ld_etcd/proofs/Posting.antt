@@ -1,5 +1,5 @@
 -- The parts of a request, one after the other.
-use Rattle.std.proofs.Common.{◌≡◌, ℕ, List, [], ◌∷◌, ◌++◌, length, refl, ap, ◌∙◌}
+use Rattle.std.proofs.Common.{◌≡◌, ℕ, List, [], ◌∷◌, ◌++◌, length, ap, ◌∙◌}
 use Rattle.std.specs.Prelude.{codes}
 use Rattle.http1.specs.Conn.{data_text, after_data, finish_text}
 use Rattle.http1.specs.Client.{new_client, writing, with_writing, planned_request, after_request}
@@ -7,7 +7,7 @@ use Rattle.http1.specs.declared.client.Client.{Client}
 use Rattle.http1.specs.declared.conn.BodySize.TheVariants.{Known}
 use Rattle.http1.specs.declared.conn.Limits.{Limits}
 use Rattle.ld_past.specs.Events.{Event}
-use Rattle.ld_etcd.specs.Request.{posted, headers_for, IsRequest, Asks, sends}
+use Rattle.ld_etcd.specs.Request.{posted, headers_for, Asks, sends}
 use Rattle.ld_etcd.proofs.Asking.{asks_one}
 
 pub posts : (client begun sent : Client) (host path body none head middle whole : List ℕ) → none ≡ [] → head ≡ none ++ planned_request client (codes "POST") path (Known (length body)) (headers_for host)

@@ -1,9 +1,9 @@
 -- What is asked of etcd's JSON gateway, and what its answers say.
-use Rattle.std.specs.Prelude.{◌≡◌, ◌≢◌, ◌+◌, ◌-◌, ◌^◌, ◌++◌, ◌∷◌, [], ℕ, suc, List, Option, Some, None, Ok, option_and_then, unwrap_or, codes, length, true, false}
+use Rattle.std.specs.Prelude.{◌≡◌, ◌≢◌, ◌-◌, ◌^◌, ◌++◌, ◌∷◌, [], ℕ, suc, List, Option, Some, None, Ok, option_and_then, unwrap_or, codes, length, true, false}
 use Rattle.std.specs.Fmt.{digits, padded_integral, format_spec}
 use Rattle.base64.specs.Engines.{standard}
 use Rattle.base64.specs.GeneralPurpose.{encode_of, decode_of}
-use Rattle.serde_json.specs.Data.{Data, boolean, Items, no_items, item}
+use Rattle.serde_json.specs.Data.{Data, Items, no_items, item}
 use Rattle.serde_json.specs.Find.{get, as_str, as_bool, as_array}
 
 -- ---- what is asked ----
@@ -24,10 +24,10 @@ keys_end prefix = prefix ++ codes "0"
 unfoldable pub encoded : List ℕ → List ℕ
 encoded bytes = encode_of standard bytes
 
--- all keys from that of a number on, 500 of them at most, in their order
+-- all keys from that of a number on, 2000 of them at most; no order is asked for, and etcd's is that of the keys
 abbrev pub range_request : List ℕ → ℕ → List ℕ
 range_request prefix from = codes "{\"key\":\"" ++ encoded (record_key prefix from) ++ codes "\",\"range_end\":\"" ++ encoded (keys_end prefix)
-    ++ codes "\",\"limit\":500,\"sort_order\":\"ASCEND\",\"sort_target\":\"KEY\"}"
+    ++ codes "\",\"limit\":2000}"
 
 -- where the key of a number was never made, it is made with this value; otherwise what stands there is told
 abbrev pub make_request : List ℕ → ℕ → List ℕ → List ℕ

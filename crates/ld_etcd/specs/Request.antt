@@ -1,5 +1,5 @@
 -- Requests to members, and the calls of members in which they are sent.
-use Rattle.std.specs.Prelude.{◌≡◌, ◌⊎◌, ◌++◌, ◌∷◌, [], ℕ, List, codes, length}
+use Rattle.std.specs.Prelude.{◌≡◌, ◌++◌, ◌∷◌, [], ℕ, List, codes, length}
 use Rattle.http1.specs.Fields.{Header}
 use Rattle.http1.specs.Conn.{data_text, after_data, finish_text}
 use Rattle.http1.specs.Client.{new_client, writing, with_writing, planned_request, after_request}

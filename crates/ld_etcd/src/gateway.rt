@@ -52,7 +52,8 @@ fn end_of(alloc: Global, prefix: &str) -> Result<String, Cause>
     encoded(alloc, end.as_bytes())
 }
 
-/// Asks for the records from a number on.
+/// Asks for the records from a number on, 2,000 of them at most. It asks for no order: etcd answers in that of the keys, where
+/// with an order it would first go through all keys up to the range's end.
 pub(crate) fn range_text(alloc: Global, prefix: &str, from: u64) -> Result<String, Cause>
     ensures { IfOk result (λ text. string_bytes text ≡ range_request prefix.now from) }
 {
@@ -62,7 +63,7 @@ pub(crate) fn range_text(alloc: Global, prefix: &str, from: u64) -> Result<Strin
     text.push_str(from.as_str())?;
     text.push_str("\",\"range_end\":\"")?;
     text.push_str(end.as_str())?;
-    text.push_str("\",\"limit\":500,\"sort_order\":\"ASCEND\",\"sort_target\":\"KEY\"}")?;
+    text.push_str("\",\"limit\":2000}")?;
     Ok(text)
 }
 

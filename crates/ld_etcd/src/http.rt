@@ -1,5 +1,5 @@
 // One request and its response over HTTP/1.1.
-ghost use Rattle.std.specs.Prelude.{◌≡◌, codes, IfOk};
+ghost use Rattle.std.specs.Prelude.{◌≡◌, ◌≤◌, ◌^◌, ◌++◌, codes, length, IfOk, OnOk};
 ghost use Rattle.http1.specs.Client.{new_client};
 ghost use Rattle.ld_etcd.specs.Request.{posted, Asks};
 
@@ -19,7 +19,8 @@ pub(crate) struct Response {
     pub body: Vec<u8>,
 }
 
-/// Posts a body to a path of the connected member, and reads the whole response.
+/// Posts a body to a path of the connected member, and reads the whole response. One whose body has more than 16 MiB is refused
+/// with `NoResponse`.
 pub(crate) fn post<M: Members>(
     alloc: Global,
     members: &mut M,
@@ -27,7 +28,8 @@ pub(crate) fn post<M: Members>(
     path: &str,
     body: &[u8],
 ) -> Result<Response, Cause>
-    ensures { Asks path.now body.now (M.did members.old) (M.did members.new) }
+    ensures asks { Asks path.now body.now (M.did members.old) (M.did members.new) }
+    ensures short { IfOk result (λ response. length response.body.items ≤ 2 ^ 24) }
 {
     let mut client = Client::new(Limits::default());
     let request = write_request(
@@ -78,13 +80,14 @@ fn write_request(
     Ok(out)
 }
 
-/// Reads a response to its end.
+/// Reads a response to its end, whose body has 16 MiB at most.
 fn read_response<M: Members>(
     alloc: Global,
     members: &mut M,
     client: &mut Client,
 ) -> Result<Response, Cause>
-    ensures { M.did members.new ≡ M.did members.old }
+    ensures did { M.did members.new ≡ M.did members.old }
+    ensures short { IfOk result (λ response. length response.body.items ≤ 2 ^ 24) }
 {
     let mut response = Response {
         code: 0,
@@ -104,13 +107,7 @@ fn read_response<M: Members>(
         };
         match step.event {
             Event::Head(head) => response.code = head.code,
-            Event::Data(span) => {
-                let piece = span.of(unread);
-                if piece.len() > MOST - response.body.len().min(MOST) {
-                    return Err(Cause::NoResponse);
-                }
-                response.body.extend_from_slice(piece)?;
-            }
+            Event::Data(span) => take_piece(&mut response.body, span.of(unread))?,
             Event::End(_) => return Ok(response),
             Event::Informational(_) => {}
             Event::NeedMore => needs_more = true,
@@ -122,6 +119,18 @@ fn read_response<M: Members>(
         }
     }
     Err(Cause::NoResponse)
+}
+
+/// Puts a piece of a body behind what came of it. Where both have more than 16 MiB it refuses with `NoResponse`.
+fn take_piece(body: &mut Vec<u8>, piece: &[u8]) -> Result<(), Cause>
+    ensures taken { OnOk result (body.new.items ≡ body.old.items ++ piece.now) }
+    ensures short { OnOk result (length body.new.items ≤ 2 ^ 24) }
+{
+    if body.len() > MOST || piece.len() > MOST - body.len() {
+        return Err(Cause::NoResponse);
+    }
+    body.extend_from_slice(piece)?;
+    Ok(())
 }
 
 /// Puts what comes next behind what came.

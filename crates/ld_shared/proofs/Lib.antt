@@ -7,3 +7,4 @@ pub mod Sole
 pub mod Calling
 pub mod Together
 pub mod Changing
+pub mod Copied

@@ -1,4 +1,5 @@
 pub mod Bodies
+pub mod Copies
 pub mod Fits
 pub mod Free
 pub mod Fresh

@@ -3,6 +3,7 @@
 
 mod asked;
 mod asking;
+mod copying;
 mod fresh;
 mod journal;
 mod laws;
@@ -10,6 +11,7 @@ mod mark;
 mod questions;
 mod shared;
 
+pub use copying::{CopyFault, copy};
 pub use laws::{
     calls_are_in_order, programs_agree, programs_share_one_register, records_are_calls,
 };

@@ -26,6 +26,17 @@ impl Mark {
         }
     }
 
+    /// The mark of a copy's record of this number, which no program has.
+    pub(crate) fn of_copy(number: u64) -> Mark
+        ensures { result ≡ record { high = 0; low = 0; count = number } }
+    {
+        Mark {
+            high: 0,
+            low: 0,
+            count: number,
+        }
+    }
+
     /// The value with this body, and the mark with its next count before it: 24 bytes.
     pub fn value(&mut self, alloc: Global, body: &[u8]) -> Result<Vec<u8>, AllocError>
         ensures value { IfOk result (λ v. v.items ≡ to_be_bytes w64 self.old.high ++ (to_be_bytes w64 self.old.low ++ (to_be_bytes w64 self.old.count ++ body.now))) }

@@ -53,6 +53,26 @@ fn reads(
     Some((answer, etcd.cause()))
 }
 
+/// What a read of record 0 answers where a member's answer has no record and so many bytes, and why it failed.
+fn reads_long(alloc: Global, size: usize) -> Option<(Result<u32, RecordsFault>, Option<Cause>)> {
+    let none = r#"{"header":{}}"#;
+    let spaces = " ".repeat(alloc, size.saturating_sub(none.len())).ok()?;
+    let body = format!(in alloc; "{none}{spaces}").ok()?;
+    reads(alloc, "200 OK", body.as_str())
+}
+
+/// Whether a read of record 0 sends one request, and this body in it.
+fn read_sends(alloc: Global, body: &str) -> Option<bool> {
+    let mut replies = Vec::new(alloc);
+    replies.push(answers(alloc, "200 OK", PAIR)?).ok()?;
+    let mut etcd = records(alloc, 1, replies)?;
+    let _ = read(alloc, &mut etcd, 0);
+    match etcd.members().sent() {
+        [request] => Some(body_of(request) == body.as_bytes()),
+        _ => Some(false),
+    }
+}
+
 /// How an append of the bytes 1 and 2 ends where the members reply so, how many requests were sent, and whether they all were
 /// the first one.
 fn appends(
@@ -112,6 +132,23 @@ fn a_record_is_read_and_nothing_else(rt: HostRuntime) -> Result<(), Fail> {
     let junk =
         r#"{"header":{},"kvs":[{"key":"cC8wMDAwMDAwMDAwMDAwMDAw","version":"1","value":"A!"}]}"#;
     assert!(rt; reads(alloc, "200 OK", junk) == gone);
+    Ok(())
+}
+
+#[test]
+fn a_read_asks_for_2000_keys_in_no_order(rt: HostRuntime) -> Result<(), Fail> {
+    let body = r#"{"key":"cC8wMDAwMDAwMDAwMDAwMDAw","range_end":"cDA=","limit":2000}"#;
+    assert!(rt; read_sends(rt.alloc(), body) == Some(true));
+    Ok(())
+}
+
+#[test]
+fn an_answer_of_more_than_16_mib_is_refused(rt: HostRuntime) -> Result<(), Fail> {
+    let alloc = rt.alloc();
+    let most = 1 << 24;
+    assert!(rt; reads_long(alloc, most) == Some((Ok(256), None)));
+    let refused = Some((Err(RecordsFault::Failed), Some(Cause::NoResponse)));
+    assert!(rt; reads_long(alloc, most + 1) == refused);
     Ok(())
 }
 
