@@ -11,8 +11,9 @@ use Rattle.ld_op.specs.Plain.{Plain, apply, op_length}
 use Rattle.ld_op.specs.Records.{is_format}
 use Rattle.ld_op.specs.Bounds.{IsOp}
 use Rattle.ld_op.specs.Bytes.{op_bytes}
-use Rattle.ld_layout.specs.Layout.{Layout, Segment, switches, switch_calls, kept_in, passes_limit}
+use Rattle.ld_layout.specs.Layout.{Layout, Segment, switches, switch_calls, kept_in, passes_limit, kind_of}
 use Rattle.ld_segment.specs.Lies.{Slots, MayKeep, segment_for, switch_row, calls_by, op_row, switching, slots_with}
+use Rattle.ld_layout.proofs.Segments.{kept_growing}
 use Rattle.ld_segment.proofs.Bodies.{record_long}
 use Rattle.ld_segment.proofs.Durable.{all_lie, all_safe, all_read}
 use Rattle.ld_segment.proofs.Sound.{sound_kept}
@@ -41,11 +42,11 @@ seen_too (Some p) = refl
 
 -- ---- how many calls ----
 
-with_switch : (y : Layout) (z : Slots) (g : Segment) (gate : ℕ) (body : List ℕ) (a : Option Segment) → length (switch_row 13 y z g a ++ append_calls gate body) ≡ switch_calls a + 4
+with_switch : (y : Layout) (z : Slots) (g : Segment) (gate : ℕ) (body : List ℕ) (a : Option Segment) → length (switch_row (kind_of y) y z g a ++ append_calls gate body) ≡ switch_calls a + 4
 with_switch y z g gate body None = refl
 with_switch y z g gate body (Some s) = refl
 
-calls_long : (y : Layout) (z : Slots) (body : List ℕ) (n : ℕ) (t : Bool) → length (calls_by 13 y z body n t) ≡ (if t then switch_calls y.later else 0) + 4
+calls_long : (y : Layout) (z : Slots) (body : List ℕ) (n : ℕ) (t : Bool) → length (calls_by (kind_of y) y z body n t) ≡ (if t then switch_calls y.later else 0) + 4
 calls_long y z body n true = with_switch y z (segment_for y n) (segment_for y n).end body y.later
 calls_long y z body n false = refl
 
@@ -69,6 +70,7 @@ pub made_whole : (y : Layout) (z : Slots) (p : Plain) (o : Op) (s : State) → M
 made_whole y z p o s may w = record {
   lies = all_lie y z o s.bytes s w.safe w.lies w.sound may;
   sound = sound_kept y o w.sound may;
+  still = kept_growing y o ∙ w.still;
   plain = ap (λ q. apply q o) w.plain ∙ sym (all_read y z o s.bytes s w.safe w.lies w.sound may);
   safe = all_safe y z o s.bytes s w.safe;
 }

@@ -11,6 +11,7 @@ use Rattle.ld_op.specs.Plain.{Plain, apply, op_length}
 use Rattle.ld_op.specs.Cells.{read_plain}
 use Rattle.ld_layout.specs.Layout.{Layout, laid_for, kept_in}
 use Rattle.ld_segment.specs.Lies.{Slots, LiesAs, IsSound, StandsFor, written, op_row, slots_with, switching, gate_shows, layout_left, plain_left}
+use Rattle.ld_layout.proofs.Segments.{laid_growing, kept_growing}
 use Rattle.ld_segment.proofs.OpPictures.{decided}
 use Rattle.ld_segment.proofs.Sound.{sound_kept}
 use Rattle.ld_store.proofs.Applying.{kept_ops}
@@ -26,6 +27,7 @@ pub record Finds (bytes : List ℕ) (p : Plain) (y : Layout) : Type 0 where
   pub slots : Slots
   pub lies : LiesAs (written y) y slots bytes
   pub sound : IsSound y
+  pub still : y.grows ≡ false
   pub plain : p ≡ read_plain bytes y.index
   pub formatted : (p.generation == 0) ≡ (y.ops == 0)
 
@@ -82,6 +84,7 @@ module _ (y : Layout) (z : Slots) (p : Plain) (k : Cut) (s : State) (cut : IsCut
         slots = left.0;
         lies = left.1.lies;
         sound = choose (λ q l. IsSound l) (sound_kept y cut.op w.sound cut.next) (laid_sound y cut.op w.sound cut.next) w.sound;
+        still = choose (λ q l. l.grows ≡ false) (kept_growing y cut.op ∙ w.still) (laid_growing y cut.op 0 ∙ w.still) w.still;
         plain = ap (λ q. plain_left q y cut.op k.call cut.how cut.later) w.plain ∙ sym left.1.plain;
         formatted = choose (λ q l. (q.generation == 0) ≡ (l.ops == 0)) (ap (λ q. q.generation == 0) (sym cut.plain) ∙ cut.formatted ∙ sym (kept_ops y cut.op (slots_with y z (op_length cut.op)) (all_made (op_row y z cut.op) cut.before.state).bytes (made_whole y z p cut.op cut.before.state cut.next w).lies))
             (formatted ∙ sym (laid_ops y cut.op)) formatted;
@@ -89,7 +92,7 @@ module _ (y : Layout) (z : Slots) (p : Plain) (k : Cut) (s : State) (cut : IsCut
 
 module _ (x : Node) (z : Slots) (formatted : (x.plain.generation == 0) ≡ (x.layout.ops == 0)) where
   finds_rest : (cut : Option Cut) (s : State) → Rests x.layout z x.plain cut s → Finds s.bytes (found x cut) (found_layout x cut)
-  finds_rest None s whole = record { slots = z; lies = whole.lies; sound = whole.sound; plain = whole.plain; formatted = formatted }
+  finds_rest None s whole = record { slots = z; lies = whole.lies; sound = whole.sound; still = whole.still; plain = whole.plain; formatted = formatted }
   finds_rest (Some k) s cut =
       let there = found_there x.layout z x.plain k s cut in
       let switched = switched_there x.layout z x.plain k s cut in
@@ -116,7 +119,7 @@ module _ (p : DiskPlain) (x : Node) (lies : Lies p x) (made : AllMade one_sync x
       record {
         slots = z;
         formatted = f.formatted;
-        rests = subst (λ t. IsWhole (found_layout x x.cut) z (found x x.cut) t) (sym synced_is) (record { lies = there; sound = f.sound; plain = f.plain; safe = refl });
+        rests = subst (λ t. IsWhole (found_layout x x.cut) z (found x x.cut) t) (sym synced_is) (record { lies = there; sound = f.sound; still = f.still; plain = f.plain; safe = refl });
         armed = subst (λ r. IsArmed (loaded_by x Made).fault r) (after_one None p ∙ sym is) made.armed;
       }
 

@@ -66,7 +66,7 @@ module _ (c : Config) (n : ℕ) (p : DiskPlain) (x : Node) (lies : Lies p x) whe
 
   -- ---- it comes up ----
 
-  module _ {g : Ghosts MemDisk} (node : Running MemDisk g) (opened : IsOpened seen_in leaves_of node p.state.bytes) (disk : disk_plain (disk_of node) ≡ after_call None p) (works : succeeds p ≡ true) where
+  module _ {g : Ghosts MemDisk} (node : Running MemDisk g) (opened : IsOpened seen_in leaves_of node p.state.bytes) (still : (layout_of node).grows ≡ false) (disk : disk_plain (disk_of node) ≡ after_call None p) (works : succeeds p ≡ true) where
     -- what the load found is what lies there
     holds_now : Holds seen_in leaves_of node
     holds_now = opened.holds (found x x.cut) stands_found
@@ -83,6 +83,7 @@ module _ (c : Config) (n : ℕ) (p : DiskPlain) (x : Node) (lies : Lies p x) whe
     laid_now =
         let f = finds p x lies in
         (one_way (written (layout_of node)) (written (found_layout x x.cut)) (layout_of node) (found_layout x x.cut) (slots_of node) f.slots p.state.bytes lies_here holds_now.sound f.lies f.sound).1
+        ∙ (λ i. record (found_layout x x.cut) { grows = (still ∙ sym f.still) i })
 
     formatted_is : ((found x x.cut).generation == 0) ≡ is_blank node
     formatted_is = (finds p x lies).formatted ∙ ap (λ y. y.ops == 0) (sym laid_now) ∙ sym holds_now.blank

@@ -50,13 +50,13 @@ none_held : AreHeld new_layout
 none_held l n g e q at_l at_n what = absurd (let none : None ≡ Some g = sym (find-empty l) ∙ at_l in cc none)
 
 new_sound : IsSound new_layout
-new_sound = record { laid = first_laid 0 0 unformatted; held = none_held; index = new_index; bounded = tt }
+new_sound = record { laid = first_laid 0 0 unformatted false; held = none_held; index = new_index; bounded = tt }
 
 new_lies : Lies new_disk new_node
 new_lies = record {
   slots = no_slots;
   formatted = refl;
-  rests = record { lies = empty_lies; sound = new_sound; plain = refl; safe = refl };
+  rests = record { lies = empty_lies; sound = new_sound; still = refl; plain = refl; safe = refl };
   armed = record { stands = refl; told = refl; counts = tt };
 }
 

@@ -16,6 +16,8 @@ use Rattle.ld_host.specs.Faults.{pictures_of, IsArmed}
 pub record IsWhole (y : Layout) (z : Slots) (p : Plain) (s : State) : Type 0 where
   pub lies : LiesAs (written y) y z s.bytes
   pub sound : IsSound y
+  -- a host lets the room of no segment grow
+  pub still : y.grows ≡ false
   pub plain : p ≡ read_plain s.bytes y.index
   pub safe : IsSafe s.bytes s
 

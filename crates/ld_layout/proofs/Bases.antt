@@ -1,5 +1,5 @@
 -- The bytes of a Base are read as that Base.
-use Rattle.std.proofs.Common.{◌≡◌, ◌<◌, ◌≤◌, ◌||◌, ◌==◌, ℕ, true, cond, List, [], ◌++◌, refl, ap, sym, ◌∙◌, append_assoc, length, nat_le, arith}
+use Rattle.std.proofs.Common.{◌≡◌, ◌<◌, ◌≤◌, ◌==◌, ℕ, true, cond, List, [], ◌++◌, refl, ap, sym, ◌∙◌, append_assoc, length, nat_le, arith}
 use Rattle.std.proofs.lemmas.Bool.Decides.{nat_tests}
 use Rattle.byteorder.specs.Endian.{big_bytes}
 use Rattle.ld_fields.specs.Fields.{Got, Off, follow, check, field, end_at}
@@ -7,7 +7,7 @@ use Rattle.ld_fields.proofs.Spelling.{Stands, nothing, at_end, Reads, field_read
 use Rattle.ld_op.specs.Plain.{Plain}
 use Rattle.ld_op.specs.Indexed.{index_bytes, read_index, read_table, IsBased, IsBasedTable}
 use Rattle.ld_op.proofs.Basing.{table_reads, index_reads}
-use Rattle.ld_layout.specs.Base.{Base, areas_based, base_bytes, read_area, judge_base, IsBasedArea}
+use Rattle.ld_layout.specs.Base.{Base, areas_based, base_bytes, read_area, is_base_kind, judge_base, IsBasedArea}
 
 area_reads : (bs : List ℕ) (a : ℕ × ℕ) (least at : ℕ) (ys : List ℕ) → IsBasedArea a → least ≤ a.0 → Stands bs at ((big_bytes 8 a.0 ++ big_bytes 8 a.1) ++ ys) → Reads bs (read_area bs least at) a ys
 unfolding read_area
@@ -23,15 +23,15 @@ module _ (kind : ℕ) (p : Plain) (areas : List (ℕ × ℕ)) where
   abbrev whole : Base
   whole = record { kind = kind; index = p; areas = areas }
 
-  pub base_judged : kind < 256 → ((kind == 9) || (kind == 13)) ≡ true → IsBased (kind == 9) p → IsBasedTable IsBasedArea areas → judge_base (base_bytes kind p areas) ≡ Got whole (length (base_bytes kind p areas))
+  pub base_judged : kind < 256 → is_base_kind kind ≡ true → IsBased (kind == 9) p → IsBasedTable IsBasedArea areas → judge_base (base_bytes kind p areas) ≡ Got whole (length (base_bytes kind p areas))
   unfolding judge_base base_bytes
   base_judged f k i a =
       let bs : List ℕ = big_bytes 1 kind ++ (index_bytes p ++ (big_bytes 4 (length areas) ++ areas_based areas)) in
-      let r = follow_reads bs (field 1 bs 0) (λ kind at. check ((kind == 9) || (kind == 13)) 0 (
+      let r = follow_reads bs (field 1 bs 0) (λ kind at. check (is_base_kind kind) 0 (
       follow (read_index bs (kind == 9) at) (λ index at_areas. follow (read_table bs (read_area bs) at_areas) (λ areas next. end_at bs next (record { kind = kind; index = index; areas = areas })))))
       kind whole (index_bytes p ++ (big_bytes 4 (length areas) ++ areas_based areas)) []
       (field_reads 0 kind bs 0 (index_bytes p ++ (big_bytes 4 (length areas) ++ areas_based areas)) f (record { within = omega arith; there = refl })) (λ at s.
-      check_reads bs ((kind == 9) || (kind == 13)) 0 _ whole [] k
+      check_reads bs (is_base_kind kind) 0 _ whole [] k
       (follow_reads bs (read_index bs (kind == 9) at) _ p whole (big_bytes 4 (length areas) ++ areas_based areas) [] (index_reads bs (kind == 9) p at (big_bytes 4 (length areas) ++ areas_based areas) i s) (λ at_areas t.
       follow_reads bs (read_table bs (read_area bs) at_areas) _ areas whole [] [] (areas_read bs areas at_areas a t) (λ next u.
       record { next = next; is = let b : nat_le (length bs) next ≡ true = (let n = at_end bs next u in grind (arith, nat_tests)) in ap (λ b. cond b (Got whole next) (Off next)) b; behind = u })))) in

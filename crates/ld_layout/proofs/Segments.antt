@@ -11,7 +11,7 @@ use Rattle.ld_op.specs.Plain.{Plain, Log}
 use Rattle.ld_op.specs.Indexed as indexed
 use Rattle.ld_op.specs.Indexed.{index_bytes}
 use Rattle.ld_layout.specs.Base.{areas_based, base_bytes}
-use Rattle.ld_layout.specs.Layout.{Segment, Layout, segment_at, base_length, based_length, entries_based, logs_based, entry_count, with_record, new_segment, switches, switched_to, passes_in, passes_limit}
+use Rattle.ld_layout.specs.Layout.{Segment, Layout, segment_at, base_length, based_length, entries_based, logs_based, entry_count, with_record, laid_for, kept_in, new_segment, switches, switched_to, passes_in, passes_limit}
 use Rattle.ld_op.specs.declared.op.Op.{Op}
 use Rattle.ld_op.specs.Plain.{apply, op_length}
 use Rattle.ld_op.specs.Cells.{placed}
@@ -60,12 +60,12 @@ count_is p areas n h l = let a = counts_same p.logs in let b = logs_most p.logs 
 
 -- ---- the segment ----
 
-pub segment_is : (place base entries room number : ℕ) (areas : List (ℕ × ℕ)) (g : Segment) → g.place ≡ place → g.based ≡ entries → g.ops ≡ 0 → g.end ≡ g.place + 5 + base → g.limit ≡ g.place + 6 + base + room → g.areas ≡ areas → g.number ≡ number
-    → g ≡ segment_at place base entries room areas number
-segment_is place base entries room number areas g a b o e l s n =
+pub segment_is : (place base entries room number : ℕ) (areas : List (ℕ × ℕ)) (grows : Bool) (g : Segment) → g.place ≡ place → g.based ≡ entries → g.ops ≡ 0 → g.end ≡ g.place + 5 + base → g.limit ≡ g.place + 6 + base + room → g.areas ≡ areas → g.number ≡ number → g.grows ≡ grows
+    → g ≡ segment_at place base entries room areas number grows
+segment_is place base entries room number areas grows g a b o e l s n w =
     let f : g.end ≡ place + 5 + base = e ∙ ap (λ k. k + 5 + base) a in
     let m : g.limit ≡ place + 6 + base + room = l ∙ ap (λ k. k + 6 + base + room) a in
-    λ i. record { place = a i; based = b i; ops = o i; end = f i; limit = m i; areas = s i; number = n i }
+    λ i. record { place = a i; based = b i; ops = o i; end = f i; limit = m i; areas = s i; number = n i; grows = w i }
 
 pub is_past_by : (p : Plain) (g : Segment) → (journal_limit < g.limit) ⊎ ((2 ^ 32 ≤ base_length p g.areas) ⊎ (2 ^ 64 ≤ g.number)) → is_past p g ≡ true
 is_past_by p g h = ⊎_elim
@@ -81,34 +81,34 @@ not_past p g l b n = or_from (nat_lt journal_limit g.limit) _ (grind (arith, nat
 
 pub switched_is : (y : Plan) (g : Stretch) (index : Plain) (cause room : ℕ) → segment_of g ≡ new_segment (laid_out y index) cause room → laid_out (record y { later = Some g }) index ≡ switched_to (laid_out y index) cause room
 unfolding switched_to
-switched_is y g index cause room h = λ i. record { ops = y.ops; end = y.end; later = Some (h i); index = index }
+switched_is y g index cause room h = λ i. record { ops = y.ops; end = y.end; later = Some (h i); index = index; grows = y.grows }
 
 -- ---- a record more ----
 
-recorded_by : (ops end : ℕ) (later : Option Stretch) (index : Plain) (o : Op) → laid_out (recorded_in ops end later (op_length o) true) (apply index (placed (gate_behind end later + 5) o)) ≡ with_record (record { ops = ops; end = end; later = later_of later; index = index }) o
+recorded_by : (grows : Bool) (ops end : ℕ) (later : Option Stretch) (index : Plain) (o : Op) → laid_out (recorded_in grows ops end later (op_length o) true) (apply index (placed (gate_behind end later + 5) o)) ≡ with_record (record { ops = ops; end = end; later = later_of later; index = index; grows = grows }) o
 unfolding with_record
-recorded_by ops end None index o = refl
-recorded_by ops end (Some g) index o = refl
+recorded_by grows ops end None index o = refl
+recorded_by grows ops end (Some g) index o = refl
 
 more_is : (is_op : Bool) (ops more : ℕ) → more ≡ cond is_op 1 0 → ops + more ≡ more_ops is_op ops
 more_is true ops more h = omega arith
 more_is false ops more h = omega arith
 
 pub recorded_later : (y : Plan) (g : Stretch) (body more : ℕ) (is_op : Bool) → y.later ≡ Some g → more ≡ cond is_op 1 0
-    → record { ops = y.ops; end = y.end; later = Some (record g { ops = g.ops + more; end = g.end + 5 + body }) } ≡ recorded y body is_op
+    → record { ops = y.ops; end = y.end; later = Some (record g { ops = g.ops + more; end = g.end + 5 + body }); grows = y.grows } ≡ recorded y body is_op
 recorded_later y g body more is_op h m =
     let o = more_is is_op g.ops more m in
     let e : g.end + 5 + body ≡ g.end + record_length body = omega arith in
-    (λ i. record { ops = y.ops; end = y.end; later = Some (record g { ops = o i; end = e i }) }) ∙ sym (ap (λ l. recorded_in y.ops y.end l body is_op) h)
+    (λ i. record { ops = y.ops; end = y.end; later = Some (record g { ops = o i; end = e i }); grows = y.grows }) ∙ sym (ap (λ l. recorded_in y.grows y.ops y.end l body is_op) h)
 
-pub recorded_first : (y : Plan) (body more : ℕ) (is_op : Bool) → y.later ≡ None → more ≡ cond is_op 1 0 → record { ops = y.ops + more; end = y.end + 5 + body; later = None } ≡ recorded y body is_op
+pub recorded_first : (y : Plan) (body more : ℕ) (is_op : Bool) → y.later ≡ None → more ≡ cond is_op 1 0 → record { ops = y.ops + more; end = y.end + 5 + body; later = None; grows = y.grows } ≡ recorded y body is_op
 recorded_first y body more is_op h m =
     let o = more_is is_op y.ops more m in
     let e : y.end + 5 + body ≡ y.end + record_length body = omega arith in
-    (λ i. record { ops = o i; end = e i; later = None }) ∙ sym (ap (λ l. recorded_in y.ops y.end l body is_op) h)
+    (λ i. record { ops = o i; end = e i; later = None; grows = y.grows }) ∙ sym (ap (λ l. recorded_in y.grows y.ops y.end l body is_op) h)
 
 pub recorded_is : (y z : Plan) (index : Plain) (o : Op) (body : ℕ) (is_op : Bool) → z ≡ recorded y body is_op → is_op ≡ true → op_length o ≡ body → laid_out z (apply index (placed (gate_behind y.end y.later + 5) o)) ≡ with_record (laid_out y index) o
-recorded_is y z index o body is_op h t e = ap (λ x. laid_out x (apply index (placed (gate_behind y.end y.later + 5) o))) (h ∙ (ap (recorded y body) t ∙ ap (λ n. recorded y n true) (sym e))) ∙ recorded_by y.ops y.end y.later index o
+recorded_is y z index o body is_op h t e = ap (λ x. laid_out x (apply index (placed (gate_behind y.end y.later + 5) o))) (h ∙ (ap (recorded y body) t ∙ ap (λ n. recorded y n true) (sym e))) ∙ recorded_by y.grows y.ops y.end y.later index o
 
 -- ---- answers ----
 
@@ -141,15 +141,29 @@ module _ (y : Layout) (o : Op) where
   unfolding switched_to
   passes_then body e s = passes_by true (ap (switches y) e ∙ s) ∙ ap (λ n. is_past y.index (new_segment y (record_length n) (record_length n))) e
 
-else_by : (ops end : ℕ) (later : Option Stretch) (index : Plain) (o : Op) → passed_by (record { ops = ops; end = end; later = later_of later; index = index }) o false (later_of later) ≡ passes_first end (op_length o) later
-else_by ops end None index o = refl
-else_by ops end (Some g) index o = refl
+else_by : (grows : Bool) (ops end : ℕ) (later : Option Stretch) (index : Plain) (o : Op) → passed_by (record { ops = ops; end = end; later = later_of later; index = index; grows = grows }) o false (later_of later) ≡ passes_first end (op_length o) later
+else_by grows ops end None index o = refl
+else_by grows ops end (Some g) index o = refl
 
 pub passes_else : (plan : Plan) (index : Plain) (o : Op) (body : ℕ) → op_length o ≡ body → switches (laid_out plan index) body ≡ false → passes_limit (laid_out plan index) o ≡ passes_first plan.end body plan.later
-passes_else plan index o body e s = passes_by (laid_out plan index) o false (ap (switches (laid_out plan index)) e ∙ s) ∙ (else_by plan.ops plan.end plan.later index o ∙ ap (λ n. passes_first plan.end n plan.later) e)
+passes_else plan index o body e s = passes_by (laid_out plan index) o false (ap (switches (laid_out plan index)) e ∙ s) ∙ (else_by plan.grows plan.ops plan.end plan.later index o ∙ ap (λ n. passes_first plan.end n plan.later) e)
 
 pub same_less : (a b c : ℕ) → (a < b → a < c) → (a < c → a < b) → nat_lt a b ≡ nat_lt a c
 same_less a b c f g = elim (nat_lt a b) as (λ x. nat_lt a b ≡ x → x ≡ nat_lt a c) [
   | true ↦ λ e. let l : a < b = grind (arith, nat_tests) in let m = f l in sym (let t : nat_lt a c ≡ true = grind (arith, nat_tests) in t)
   | false ↦ λ e. let n : c ≤ a = (let m : b ≤ a = grind (arith, nat_tests) in at_most a c (λ l. (let k = g l in absurd (omega arith)))) in sym (let t : nat_lt a c ≡ false = grind (arith, nat_tests) in t)
 ] refl
+
+-- ---- whether the next segment is to grow ----
+
+pub laid_growing : (y : Layout) (o : Op) (room : ℕ) → (laid_for y o room).grows ≡ y.grows
+unfolding switched_to
+laid_growing y o room = by (switches y (op_length o))
+  where
+    by : (b : Bool) → (cond b (switched_to y (record_length (op_length o)) room) y).grows ≡ y.grows
+    by true = refl
+    by false = refl
+
+pub kept_growing : (y : Layout) (o : Op) → (kept_in y o).grows ≡ y.grows
+unfolding with_record
+kept_growing y o = laid_growing y o (record_length (op_length o))

@@ -10,7 +10,7 @@ use Rattle.ld_msg.specs.Register.{record_length}
 use Rattle.ld_op.specs.declared.op.Op.{Op}
 use Rattle.ld_op.specs.Plain.{Plain, op_length}
 use Rattle.ld_layout.specs.Areas.{IsApart, AreLive, IsLonger, AreShrunk, least_place}
-use Rattle.ld_layout.specs.Layout.{Layout, Segment, head_end, used, holds_payload, base_length, closed_areas, live_areas, room_for, new_segment, switched_to, full_ops, is_first, is_full_first, is_full_later, switches, later_with, with_record, new_layout, IfSegment, IsLaid}
+use Rattle.ld_layout.specs.Layout.{Layout, Segment, head_end, used, holds_payload, base_length, closed_areas, live_areas, least_for, room_for, new_segment, switched_to, full_ops, is_first, is_full_first, is_full_later, switches, later_with, with_record, new_layout, IfSegment, IsLaid}
 use Rattle.ld_layout.proofs.Live.{live_next, free_of_each, rise_of}
 use Rattle.ld_layout.proofs.Free.{is_free}
 
@@ -101,7 +101,7 @@ module _ (y : Layout) (cause room : ℕ) (laid : IsLaid y) (less : room ≤ caus
   g = new_segment y cause room
 
   abbrev pub size : ℕ
-  size = base_length y.index areas + 6 + room_for cause
+  size = base_length y.index areas + 6 + room_for (least_for y.grows (base_length y.index areas)) cause
 
   areas_ordered : Ordered areas
   areas_ordered = used_ordered y.index closed (closed_ordered y y.later laid.segment)

@@ -8,7 +8,7 @@ use Rattle.ld_table.specs.Table.{put}
 use Rattle.ld_msg.specs.Register.{record_length, journal_limit}
 use Rattle.ld_op.specs.Plain.{Plain}
 use Rattle.ld_layout.specs.Areas.{least_place}
-use Rattle.ld_layout.specs.Layout.{head_end, full_ops, switches, live_areas, room_for, used, closed_areas, base_length, new_segment}
+use Rattle.ld_layout.specs.Layout.{head_end, full_ops, switches, live_areas, least_for, room_for, used, closed_areas, base_length, new_segment}
 use Rattle.ld_layout.specs.declared.segment.Segment.{Segment as Stretch}
 use Rattle.ld_layout.specs.declared.segment.Layout.{Layout as Plan}
 use Rattle.ld_layout.specs.LaidOut.{segment_of, later_of, laid_out, gate_behind, ops_behind, is_past, passes_first, more_ops, recorded_in, is_within_later}
@@ -51,17 +51,17 @@ few_more : (is_op : Bool) (ops : ℕ) → more_ops is_op ops ≤ ops + 1
 few_more true ops = omega arith
 few_more false ops = omega arith
 
-pub record_within : (ops end : ℕ) (later : Option Stretch) (index : Plain) (body : ℕ) (is_op : Bool) → (nat_le end journal_limit && is_within_later ops end later) ≡ true
-    → switches (record { ops = ops; end = end; later = later_of later; index = index }) body ≡ false → passes_first end body later ≡ false
-    → (nat_le (recorded_in ops end later body is_op).end journal_limit && is_within_later (recorded_in ops end later body is_op).ops (recorded_in ops end later body is_op).end (recorded_in ops end later body is_op).later) ≡ true
+pub record_within : (grows : Bool) (ops end : ℕ) (later : Option Stretch) (index : Plain) (body : ℕ) (is_op : Bool) → (nat_le end journal_limit && is_within_later ops end later) ≡ true
+    → switches (record { ops = ops; end = end; later = later_of later; index = index; grows = grows }) body ≡ false → passes_first end body later ≡ false
+    → (nat_le (recorded_in grows ops end later body is_op).end journal_limit && is_within_later (recorded_in grows ops end later body is_op).ops (recorded_in grows ops end later body is_op).end (recorded_in grows ops end later body is_op).later) ≡ true
 unfolding switches
-record_within ops end None index body is_op w s p =
+record_within grows ops end None index body is_op w s p =
     let o = leb-true ops end (and_parts (nat_le end journal_limit) (nat_le ops end) w).1 in
     let l = ltb-false journal_limit (end + 1 + record_length body) p in
     let a = le-leb (end + record_length body) journal_limit (omega arith) in
     let b = le-leb (more_ops is_op ops) (end + record_length body) (let m = few_more is_op ops in omega arith) in
     λ i. a i && b i
-record_within ops end (Some g) index body is_op w s p =
+record_within grows ops end (Some g) index body is_op w s p =
     let a = and_parts (nat_le end journal_limit) (is_within_later ops end (Some g)) w in
     let e = ends_of ops end g a.1 in
     let l = leb-false g.limit (g.end + record_length body) (or_parts (nat_le (max full_ops g.based) g.ops) (nat_le g.limit (g.end + record_length body)) s).1 in
@@ -106,21 +106,22 @@ past_it size h m l b =
     let n = no_less size (max 0 (0 + h)) b.rest in
     omega arith
 
-live_first : (ops end : ℕ) (later : Option Stretch) (index : Plain) → is_within_later ops end later ≡ true → BeginWith (head_end end) (live_areas (record { ops = ops; end = end; later = later_of later; index = index }) (later_of later))
-live_first ops end None index w = record { rest = []; is = refl }
-live_first ops end (Some g) index w = let e = ends_of ops end g w in put_behind (head_end end) g.place _ _ (omega (arith, e.place)) (put_first (head_end end) g.areas)
+live_first : (grows : Bool) (ops end : ℕ) (later : Option Stretch) (index : Plain) → is_within_later ops end later ≡ true → BeginWith (head_end end) (live_areas (record { ops = ops; end = end; later = later_of later; index = index; grows = grows }) (later_of later))
+live_first grows ops end None index w = record { rest = []; is = refl }
+live_first grows ops end (Some g) index w = let e = ends_of ops end g w in put_behind (head_end end) g.place _ _ (omega (arith, e.place)) (put_first (head_end end) g.areas)
 
 pub switch_within : (y : Plan) (g : Stretch) (index : Plain) (cause : ℕ) → (nat_le y.end journal_limit && is_within_later y.ops y.end y.later) ≡ true → segment_of g ≡ new_segment (laid_out y index) cause cause → is_past index (segment_of g) ≡ false
     → (nat_le y.end journal_limit && is_within_later y.ops y.end (Some g)) ≡ true
 switch_within y g index cause w new fits =
     let a = and_parts (nat_le y.end journal_limit) (is_within_later y.ops y.end y.later) w in
     let base : ℕ = base_length index (used index (closed_areas (laid_out y index) (later_of y.later))) in
-    let size : ℕ = base + 6 + room_for cause in
-    let p = past_it size (head_end y.end) (live_areas (laid_out y index) (later_of y.later)) (omega arith) (live_first y.ops y.end y.later index a.1) in
+    let least : ℕ = least_for y.grows base in
+    let size : ℕ = base + 6 + room_for least cause in
+    let p = past_it size (head_end y.end) (live_areas (laid_out y index) (later_of y.later)) (omega arith) (live_first y.grows y.ops y.end y.later index a.1) in
     let at : g.place ≡ least_place size 0 (live_areas (laid_out y index) (later_of y.later)) = ap (λ s. s.place) new in
     let ops : g.ops ≡ 0 = ap (λ s. s.ops) new in
     let end : g.end ≡ least_place size 0 (live_areas (laid_out y index) (later_of y.later)) + 5 + base = ap (λ s. s.end) new in
-    let limit : g.limit ≡ least_place size 0 (live_areas (laid_out y index) (later_of y.later)) + 6 + base + room_for cause = ap (λ s. s.limit) new in
+    let limit : g.limit ≡ least_place size 0 (live_areas (laid_out y index) (later_of y.later)) + 6 + base + room_for least cause = ap (λ s. s.limit) new in
     let b = ends_within y.ops y.end g (record {
       place = omega arith;
       ops = omega arith;

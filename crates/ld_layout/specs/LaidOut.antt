@@ -12,7 +12,7 @@ abbrev pub base_of : Based → Base
 base_of b = record { kind = b.kind; index = b.index.state; areas = b.areas }
 
 abbrev pub segment_of : Stretch → Segment
-segment_of g = record { place = g.place; based = g.based; ops = g.ops; end = g.end; limit = g.limit; areas = g.areas; number = g.number }
+segment_of g = record { place = g.place; based = g.based; ops = g.ops; end = g.end; limit = g.limit; areas = g.areas; number = g.number; grows = g.grows }
 
 abbrev pub later_of : Option Stretch → Option Segment
 later_of None = None
@@ -20,7 +20,7 @@ later_of (Some g) = Some (segment_of g)
 
 -- with the index of the journal
 abbrev pub laid_out : Plan → Plain → Layout
-laid_out y index = record { ops = y.ops; end = y.end; later = later_of y.later; index = index }
+laid_out y index = record { ops = y.ops; end = y.end; later = later_of y.later; index = index; grows = y.grows }
 
 -- the gate behind the last record
 abbrev pub gate_behind : ℕ → Option Stretch → ℕ
@@ -44,13 +44,13 @@ passes_first end body (Some g) = false
 abbrev pub more_ops : Bool → ℕ → ℕ
 more_ops is_op ops = if is_op then ops + 1 else ops
 
-abbrev pub recorded_in : ℕ → ℕ → Option Stretch → ℕ → Bool → Plan
-recorded_in ops end None body is_op = record { ops = more_ops is_op ops; end = end + record_length body; later = None }
-recorded_in ops end (Some g) body is_op = record { ops = ops; end = end; later = Some (record g { ops = more_ops is_op g.ops; end = g.end + record_length body }) }
+abbrev pub recorded_in : Bool → ℕ → ℕ → Option Stretch → ℕ → Bool → Plan
+recorded_in grows ops end None body is_op = record { ops = more_ops is_op ops; end = end + record_length body; later = None; grows = grows }
+recorded_in grows ops end (Some g) body is_op = record { ops = ops; end = end; later = Some (record g { ops = more_ops is_op g.ops; end = g.end + record_length body }); grows = grows }
 
 -- a layout with a record of so many bytes more, which is an op's or a mark's
 abbrev pub recorded : Plan → ℕ → Bool → Plan
-recorded y body is_op = recorded_in y.ops y.end y.later body is_op
+recorded y body is_op = recorded_in y.grows y.ops y.end y.later body is_op
 
 -- a later segment lies behind the head, and its records within its area, which ends before the limit; no segment has more op records than bytes
 abbrev pub is_within_later : ℕ → ℕ → Option Stretch → Bool

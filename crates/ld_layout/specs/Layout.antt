@@ -12,7 +12,7 @@ use Rattle.ld_op.specs.Cells.{placed}
 use Rattle.ld_layout.specs.Areas.{is_inside, least_place, AreLive, IsHeld}
 
 -- a later segment: its offset, the entries of its Base, the op records after it, its ending gate, the offset behind its area, the older areas in which its entries' payloads stand, by offset with their lengths,
--- and how many switches there were
+-- how many switches there were, and whether its room grew with its Base
 pub record Segment : Type 0 where
   pub place : ℕ
   pub based : ℕ
@@ -21,18 +21,21 @@ pub record Segment : Type 0 where
   pub limit : ℕ
   pub areas : List (ℕ × ℕ)
   pub number : ℕ
+  pub grows : Bool
 
--- how a journal lies on its disk: the op records of the first segment and its ending gate, the current later segment, and the index, which is the plain state with the places of each payload's bytes in place of the bytes
+-- how a journal lies on its disk: the op records of the first segment and its ending gate, the current later segment, the index, which is the plain state with the places of each payload's bytes in place of the bytes,
+-- and whether the room of the next segment grows with its Base, which no byte tells: it is the choice of whoever writes
 pub record Layout : Type 0 where
   pub ops : ℕ
   pub end : ℕ
   pub later : Option Segment
   pub index : Plain
+  pub grows : Bool
 
 abbrev pub new_layout : Layout
-new_layout = record { ops = 0; end = 0; later = None; index = unformatted }
+new_layout = record { ops = 0; end = 0; later = None; index = unformatted; grows = false }
 
--- the least number of op records in a full segment, and the least space for records in a later one
+-- the least number of op records in a full segment, and the least space for records in a later one that doesn't grow
 abbrev pub full_ops : ℕ
 full_ops = 64
 
@@ -118,8 +121,8 @@ switch_number None = 0
 switch_number (Some g) = g.number
 
 -- a segment with a Base and room for a record of so many bytes
-abbrev pub segment_at : ℕ → ℕ → ℕ → ℕ → List (ℕ × ℕ) → ℕ → Segment
-segment_at place base entries room areas number = record {
+abbrev pub segment_at : ℕ → ℕ → ℕ → ℕ → List (ℕ × ℕ) → ℕ → Bool → Segment
+segment_at place base entries room areas number grows = record {
   place = place;
   based = entries;
   ops = 0;
@@ -127,17 +130,35 @@ segment_at place base entries room areas number = record {
   limit = place + 6 + base + room;
   areas = areas;
   number = number;
+  grows = grows;
 }
 
--- room is the length of the record that causes the switch, where that is on the disk
-abbrev pub room_for : ℕ → ℕ
-room_for cause = max least_room cause
+-- the least space for records behind a Base: where it grows, what they take is no less than what the Base does
+abbrev pub least_for : Bool → ℕ → ℕ
+least_for true base = max least_room base
+least_for false base = least_room
+
+-- room is for the record that causes the switch, by its length, where that is on the disk
+abbrev pub room_for : ℕ → ℕ → ℕ
+room_for least cause = max least cause
+
+-- the first byte of a Base of the second version, which tells whether its segment grows
+abbrev pub growing : ℕ
+growing = 14
+
+abbrev pub kind_by : Bool → ℕ
+kind_by true = growing
+kind_by false = 13
+
+abbrev pub kind_of : Layout → ℕ
+kind_of y = kind_by y.grows
 
 abbrev pub new_segment : Layout → ℕ → ℕ → Segment
 new_segment y cause room =
     let areas : List (ℕ × ℕ) = used y.index (closed_areas y y.later) in
     let base : ℕ = base_length y.index areas in
-    segment_at (least_place (base + 6 + room_for cause) 0 (live_areas y y.later)) base (entry_count y.index.logs) (room_for room) areas (switch_number y.later + 1)
+    let least : ℕ = least_for y.grows base in
+    segment_at (least_place (base + 6 + room_for least cause) 0 (live_areas y y.later)) base (entry_count y.index.logs) (room_for least room) areas (switch_number y.later + 1) y.grows
 
 -- the layout after a switch for a record of so many bytes that isn't there yet, or that is
 unfoldable pub switched_to : Layout → ℕ → ℕ → Layout
@@ -175,6 +196,7 @@ with_record y o = record {
   end = if is_first y.later then y.end + record_length (op_length o) else y.end;
   later = later_with y.later (op_length o);
   index = apply y.index (placed (gate_of y y.later + 5) o);
+  grows = y.grows;
 }
 
 -- the layout in which a record is written: after a switch, where there is one; room is for the record as far as it is on the disk

@@ -6,7 +6,7 @@ ghost use Rattle.ld_op.specs.Judged.{IsRefused};
 ghost use Rattle.byteorder.specs.Endian.{big_bytes};
 ghost use Rattle.ld_op.specs.Indexed.{read_index, read_rising, read_table, IsBased, IsBasedTable};
 ghost use Rattle.ld_op.specs.Plain.{Plain as State};
-ghost use Rattle.ld_layout.specs.Base.{areas_based, base_bytes, read_area, judge_base, IsBasedArea};
+ghost use Rattle.ld_layout.specs.Base.{areas_based, base_bytes, read_area, is_base_kind, judge_base, IsBasedArea};
 ghost use Rattle.ld_layout.specs.LaidOut.{base_of};
 
 use crate::Areas;
@@ -17,8 +17,8 @@ use ld_op::{OpFault, Plain};
 use std::alloc::Global;
 use std::collections::BTreeMap;
 
-/// An index, and the areas in which its payloads stand. The kind is its first byte: 13, or 9 in a journal of the first
-/// version.
+/// An index, and the areas in which its payloads stand. The kind is its first byte: 13, or 14 where the room of its segment
+/// grows with it, or 9 in a journal of the first version.
 #[derive(Drop)]
 pub struct Based {
     pub kind: u8,
@@ -28,7 +28,7 @@ pub struct Based {
 
 /// The bytes of a Base are read as that Base.
 pub fn bases_are_judged()
-    ensures { (kind : ℕ) (p : State) (areas : List (ℕ × ℕ)) → kind < 256 → ((kind == 9) || (kind == 13)) ≡ true → IsBased (kind == 9) p → IsBasedTable IsBasedArea areas
+    ensures { (kind : ℕ) (p : State) (areas : List (ℕ × ℕ)) → kind < 256 → is_base_kind kind ≡ true → IsBased (kind == 9) p → IsBasedTable IsBasedArea areas
         → judge_base (base_bytes kind p areas) ≡ Got (record { kind = kind; index = p; areas = areas }) (length (base_bytes kind p areas)) }
 {}
 
@@ -108,9 +108,9 @@ fn read_base(alloc: Global, bytes: &[u8]) -> Result<Based, FieldFault>
 
 /// Whether a Base may begin with the byte.
 fn is_kind(kind: u8) -> bool
-    ensures { result ≡ ((kind == 9) || (kind == 13)) }
+    ensures { result ≡ is_base_kind kind }
 {
-    kind == 9 || kind == 13
+    kind == 9 || kind == 13 || kind == 14
 }
 
 fn read_index(

@@ -14,4 +14,6 @@ pub use layout::{
     switches_keep_payloads,
 };
 pub use listed::{Areas, used};
-pub use segment::{FULL_OPS, LEAST_ROOM, LIMIT, Layout, Segment, base_length};
+pub use segment::{
+    FULL_OPS, LEAST_ROOM, LIMIT, Layout, Segment, base_kind, base_length, least_room,
+};

@@ -1,11 +1,11 @@
 // How a journal's segments lie on their disk, beside its index.
-ghost use Rattle.std.specs.Prelude.{◌≡◌, ◌≤◌, ◌<◌, ◌+◌, ◌-◌, ◌^◌, ◌∷◌, [], ℕ, min, nat_le, true, false, None, Some, OnOk, IfOk, IfSome, IfNone, is_none};
+ghost use Rattle.std.specs.Prelude.{◌≡◌, ◌≤◌, ◌<◌, ◌+◌, ◌-◌, ◌^◌, ◌∷◌, [], ℕ, Bool, min, nat_le, true, false, None, Some, OnOk, IfOk, IfSome, IfNone, is_none};
 ghost use Rattle.ld_table.specs.Table.{put};
 ghost use Rattle.ld_msg.specs.Register.{record_length, journal_limit};
 ghost use Rattle.ld_op.specs.declared.op.Op.{Op as Kind};
 ghost use Rattle.ld_op.specs.Plain.{Plain as State, apply, op_length};
 ghost use Rattle.ld_op.specs.Cells.{placed};
-ghost use Rattle.ld_layout.specs.Layout.{switches, is_full_later, closed_areas, live_areas, used, room_for, switch_number, segment_at, new_segment, switched_to, base_length, passes_limit, with_record};
+ghost use Rattle.ld_layout.specs.Layout.{switches, is_full_later, closed_areas, live_areas, used, least_for, room_for, kind_by, switch_number, segment_at, new_segment, switched_to, base_length, passes_limit, with_record};
 ghost use Rattle.ld_layout.specs.Areas.{least_place};
 ghost use Rattle.ld_layout.specs.LaidOut.{segment_of, later_of, laid_out, gate_behind, ops_behind, is_past, passes_first, recorded};
 
@@ -19,14 +19,16 @@ use std::alloc::Global;
 /// is greater.
 pub const FULL_OPS: u64 = 64;
 
-/// The least space for records in a later segment, in bytes. The record that began the segment has room even where it is longer.
+/// The least space for records in a later segment, in bytes; in one that grows, also the length of its Base. The record that
+/// began the segment has room even where it is longer.
 pub const LEAST_ROOM: u64 = 131_072;
 
 /// The limit of a journal: no record and no area passes this offset of its disk, in bytes.
 pub const LIMIT: u64 = 1 << 40;
 
 /// A later segment: its offset, the entries of its Base, the op records behind it, its ending gate, the offset behind its
-/// area, the older areas in which payloads of its entries stand, and how many switches there were.
+/// area, the older areas in which payloads of its entries stand, how many switches there were, and whether its room grew
+/// with its Base.
 #[derive(Drop)]
 pub struct Segment {
     pub place: u64,
@@ -36,6 +38,7 @@ pub struct Segment {
     pub limit: u64,
     pub areas: Areas,
     pub number: u64,
+    pub grows: bool,
 }
 
 impl Segment {
@@ -54,12 +57,14 @@ impl Segment {
     }
 }
 
-/// The op records of the first segment and its ending gate, and the current later segment.
+/// The op records of the first segment and its ending gate, the current later segment, and whether the room of the next one
+/// grows with its Base.
 #[derive(Drop)]
 pub struct Layout {
     pub ops: u64,
     pub end: u64,
     pub later: Option<Segment>,
+    pub grows: bool,
 }
 
 impl Layout {
@@ -147,17 +152,40 @@ pub fn base_length(index: &Plain, areas: &Areas) -> u64
         .saturating_add(5)
 }
 
+/// The least space for records behind a Base of so many bytes.
+pub fn least_room(grows: bool, base: u64) -> u64
+    requires { base < 2 ^ 41 }
+    ensures value { result ≡ least_for grows base }
+    ensures fits { result < 2 ^ 42 }
+{
+    if grows {
+        return base.max(LEAST_ROOM);
+    }
+    LEAST_ROOM
+}
+
+/// The first byte of a Base of the second version.
+pub fn base_kind(grows: bool) -> u8
+    ensures { result ≡ kind_by grows }
+{
+    if grows {
+        return 14;
+    }
+    13
+}
+
 /// The least offset for a segment with a Base and room for a record of so many bytes each, and the offset behind its area,
 /// where that isn't past the limit.
-fn placed(base: u64, cause: u64, live: &Areas) -> Option<(u64, u64)>
+fn placed(base: u64, least: u64, cause: u64, live: &Areas) -> Option<(u64, u64)>
     requires base { base < 2 ^ 32 }
+    requires least { least < 2 ^ 42 }
     requires cause { cause < 2 ^ 62 }
-    ensures place { IfSome result (λ p. p.0 ≡ least_place (base + 6 + room_for cause) 0 live.now) }
-    ensures limit { IfSome result (λ p. p.1 ≡ p.0 + 6 + base + room_for cause) }
+    ensures place { IfSome result (λ p. p.0 ≡ least_place (base + 6 + room_for least cause) 0 live.now) }
+    ensures limit { IfSome result (λ p. p.1 ≡ p.0 + 6 + base + room_for least cause) }
     ensures within { IfSome result (λ p. p.1 ≤ journal_limit) }
-    ensures past { IfNone result (journal_limit < least_place (base + 6 + room_for cause) 0 live.now + 6 + base + room_for cause) }
+    ensures past { IfNone result (journal_limit < least_place (base + 6 + room_for least cause) 0 live.now + 6 + base + room_for least cause) }
 {
-    let room = cause.max(LEAST_ROOM);
+    let room = cause.max(least);
     match least_place_among(base + 6 + room, live) {
         Some(place) => {
             if place <= LIMIT && place + 6 + base + room <= LIMIT {
@@ -179,15 +207,16 @@ impl Segment {
         based: u64,
         areas: Areas,
         number: u64,
+        grows: bool,
         first: u64,
     ) -> Option<Segment>
         requires base { base < 2 ^ 32 }
         requires first { first < 2 ^ 62 }
-        ensures some { IfSome result (λ g. segment_of g ≡ segment_at place base based (room_for first) areas number) }
+        ensures some { IfSome result (λ g. segment_of g ≡ segment_at place base based (room_for (least_for grows base) first) areas number grows) }
         ensures within { IfSome result (λ g. g.limit ≤ journal_limit) }
-        ensures past { IfNone result (journal_limit < place + 6 + base + room_for first) }
+        ensures past { IfNone result (journal_limit < place + 6 + base + room_for (least_for grows base) first) }
     {
-        let room = first.max(LEAST_ROOM);
+        let room = first.max(least_room(grows, base));
         if LIMIT < place || LIMIT < place + 6 + base + room {
             return None;
         }
@@ -199,6 +228,7 @@ impl Segment {
             limit: place + 6 + base + room,
             areas,
             number,
+            grows,
         })
     }
 }
@@ -293,7 +323,7 @@ impl Layout {
         ensures past { IfNone result (is_past index.now.state (new_segment (laid_out self.now index.now.state) cause cause) ≡ true) }
     {
         let based = index.entry_count();
-        match placed(base, cause, live) {
+        match placed(base, least_room(self.grows, base), cause, live) {
             Some(found) => Some(Segment {
                 place: found.0,
                 based,
@@ -302,6 +332,7 @@ impl Layout {
                 limit: found.1,
                 areas,
                 number,
+                grows: self.grows,
             }),
             None => None,
         }
@@ -349,11 +380,17 @@ impl Layout {
         ensures value { result ≡ record self { later = Some next } }
         ensures switch { (index : State) (cause room : ℕ) → segment_of next ≡ new_segment (laid_out self index) cause room → laid_out result index ≡ switched_to (laid_out self index) cause room }
     {
-        let Layout { ops, end, later: _ } = self;
+        let Layout {
+            ops,
+            end,
+            later: _,
+            grows,
+        } = self;
         Layout {
             ops,
             end,
             later: Some(next),
+            grows,
         }
     }
 
@@ -365,7 +402,12 @@ impl Layout {
         ensures op { is_op ≡ true → (index : State) (o : Kind) → op_length o ≡ body → laid_out result (apply index (placed (gate_behind self.end self.later + 5) o)) ≡ with_record (laid_out self index) o }
     {
         let more = u64::from(is_op);
-        let Layout { ops, end, later } = self;
+        let Layout {
+            ops,
+            end,
+            later,
+            grows,
+        } = self;
         match later {
             Some(segment) => Layout {
                 ops,
@@ -378,12 +420,15 @@ impl Layout {
                     limit: segment.limit,
                     areas: segment.areas,
                     number: segment.number,
+                    grows: segment.grows,
                 }),
+                grows,
             },
             None => Layout {
                 ops: ops + more,
                 end: end + 5 + body,
                 later: None,
+                grows,
             },
         }
     }

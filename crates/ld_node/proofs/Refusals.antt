@@ -1,5 +1,5 @@
 -- Refusals of a store, as a node passes them on.
-use Rattle.std.proofs.Common.{◌≡◌, ◌⊎◌, inl, inr, ⊎_elim, Result, Ok, Err, refl, ap}
+use Rattle.std.proofs.Common.{◌≡◌, ◌⊎◌, inl, inr, ⊎_elim, Result, Err, refl, ap}
 use Rattle.ld_store.specs.declared.fault.StoreFault.{StoreFault}
 use Rattle.ld_store.specs.declared.fault.StoreFault.TheVariants as stores
 use Rattle.ld_node.specs.declared.fault.NodeFault.{NodeFault}

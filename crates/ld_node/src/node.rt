@@ -60,6 +60,7 @@ impl<D: Disk> Node<D> {
         ensures node { IfOk result (λ node. (id_of node ≡ id) × (known_of node ≡ known_in config.now) × (released_of node ≡ [])) }
         ensures opens { IfOk result (λ node. IfSome (D.seen disk) (IsOpened D.seen D.may_leave node)) }
         ensures works { IfOk result (λ node. must_load node ≡ false) }
+        ensures still { IfOk result (λ node. (layout_of node).grows ≡ false) }
         ensures itself { MatchResult result (λ node. D.identity (disk_of node) ≡ D.identity disk) (λ e. D.identity e.0 ≡ D.identity disk) }
         ensures counts { MatchResult result (λ node. D.faults disk ≤ D.faults (disk_of node)) (λ e. D.faults disk ≤ D.faults e.0) }
         ensures steady { MatchResult result (λ node. D.faults (disk_of node) ≡ D.faults disk) (λ e. (e.1 ≡ NodeFault.Disk) ⊎ (D.faults e.0 ≡ D.faults disk)) }
@@ -116,6 +117,19 @@ impl<D: Disk> Node<D> {
         ensures { result ≡ is_blank self.now }
     {
         self.store.is_blank()
+    }
+
+    /// The node, which lets the room of each segment that its store begins grow with its Base. One that was loaded lets none
+    /// grow.
+    pub fn growing(self) -> Node<D>
+        ensures layout { (layout_of result ≡ record (layout_of self) { grows = true }) × (slots_of result ≡ slots_of self) }
+        ensures rest { (id_of result ≡ id_of self) × (known_of result ≡ known_of self) × (released_of result ≡ released_of self) × (disk_of result ≡ disk_of self) × (index_of result ≡ index_of self) × (plain_of result ≡ plain_of self) × (is_blank result ≡ is_blank self) × (must_load result ≡ must_load self) }
+        ensures holds { Holds D.seen D.may_leave self → Holds D.seen D.may_leave result }
+        ensures opened { (bytes : List ℕ) → IsOpened D.seen D.may_leave self bytes → IsOpened D.seen D.may_leave result bytes }
+    {
+        let mut node = self;
+        node.store.grow(true);
+        node
     }
 
     /// Gives the disk back, as the last call left it.

@@ -8,7 +8,7 @@ use Rattle.ld_op.specs.declared.op.Op.{Op}
 use Rattle.ld_op.specs.Plain.{apply, op_length}
 use Rattle.ld_op.specs.Bytes.{op_bytes}
 use Rattle.ld_op.specs.Cells.{read_plain}
-use Rattle.ld_layout.specs.Layout.{Layout, Segment, switches, kept_in}
+use Rattle.ld_layout.specs.Layout.{Layout, Segment, kind_of, switches, kept_in}
 use Rattle.ld_segment.specs.Lies.{Slots, LiesAs, IsSound, MayKeep, written, segment_for, switch_row, calls_by, op_row, switched_bytes, with_body, made_by, row_made, slots_with}
 use Rattle.ld_segment.proofs.OpRow.{kept_made}
 
@@ -24,8 +24,8 @@ made_is kind y z body b n true = with_switch kind y z (segment_for y n) (segment
 made_is kind y z body b n false = refl
 
 module _ (y : Layout) (z : Slots) (o : Op) (b : List ℕ) (s : State) (safe : IsSafe b s) where
-  pub all_is : all_made (op_row y z o) s ≡ safe_on (row_made 13 y z (op_bytes o) b)
-  all_is = ap (all_made (op_row y z o)) safe ∙ made_is 13 y z (op_bytes o) b (length (op_bytes o)) (switches y (length (op_bytes o)))
+  pub all_is : all_made (op_row y z o) s ≡ safe_on (row_made (kind_of y) y z (op_bytes o) b)
+  all_is = ap (all_made (op_row y z o)) safe ∙ made_is (kind_of y) y z (op_bytes o) b (length (op_bytes o)) (switches y (length (op_bytes o)))
 
   pub all_safe : IsSafe (all_made (op_row y z o) s).bytes (all_made (op_row y z o) s)
   all_safe = subst (λ t. IsSafe t.bytes t) (sym all_is) refl

@@ -17,7 +17,7 @@ use Rattle.ld_op.specs.Records.{body_length}
 use Rattle.ld_op.specs.Bytes.{op_bytes, record_bytes}
 use Rattle.ld_op.specs.Cells.{read_plain}
 use Rattle.ld_layout.specs.Areas.{AreLive}
-use Rattle.ld_layout.specs.Layout.{Layout, Segment, new_segment, live_areas, switches, kept_in, IfSegment}
+use Rattle.ld_layout.specs.Layout.{Layout, Segment, kind_of, new_segment, live_areas, switches, kept_in, IfSegment}
 use Rattle.ld_segment.specs.Stays.{StaysOutside}
 use Rattle.ld_segment.specs.Left.{staged}
 use Rattle.ld_segment.specs.Lies.{Slots, LiesAs, IsSound, StandsFor, StandsForEither, MayKeep, written, gate_in, segment_for, slots_after, slots_with, switched_bytes, with_body, IsAnySwitchTorn}
@@ -133,7 +133,7 @@ module _ (y : Layout) (z : Slots) (b : List ℕ) (o : Op) (lies : LiesAs (writte
   body_long : length (behind body) ≡ record_length n
   body_long = omega (arith, length-behind body, record_long (Now o))
 
-  here : switches y n ≡ false → Begins p q kept z (planned_by 13 y z body n false) b
+  here : switches y n ≡ false → Begins p q kept z (planned_by (kind_of y) y z body n false) b
   here goes =
       let gate = gate_in y y.later in
       let is = op_row.kept_here y z b o lies sound may goes in
@@ -148,15 +148,15 @@ module _ (y : Layout) (z : Slots) (b : List ℕ) (o : Op) (lies : LiesAs (writte
       }
 
   -- behind a switch
-  switched_is : (g : Segment) (a : Option Segment) → switched_bytes 13 y z g a b ≡ made_before (before_by 13 y z g a) b
+  switched_is : (g : Segment) (a : Option Segment) → switched_bytes (kind_of y) y z g a b ≡ made_before (before_by (kind_of y) y z g a) b
   switched_is g None = refl
   switched_is g (Some s) = refl
 
-  before_torn : (g : Segment) (a : Option Segment) (c : List ℕ) → IsBeforeTorn (before_by 13 y z g a) b c → IsAnySwitchTorn 13 y z g a b c
+  before_torn : (g : Segment) (a : Option Segment) (c : List ℕ) → IsBeforeTorn (before_by (kind_of y) y z g a) b c → IsAnySwitchTorn (kind_of y) y z g a b c
   before_torn g None c torn = torn
   before_torn g (Some s) c torn = torn
 
-  there : switches y n ≡ true → Begins p q kept (slots_after y z y.later) (planned_by 13 y z body n true) b
+  there : switches y n ≡ true → Begins p q kept (slots_after y z y.later) (planned_by (kind_of y) y z body n true) b
   there is =
       let g = segment_for y n in
       let new = op_row.new y z b o lies sound may is in
@@ -169,7 +169,7 @@ module _ (y : Layout) (z : Slots) (b : List ℕ) (o : Op) (lies : LiesAs (writte
       let early = op_row.new_early y z b o lies sound may is in
       record {
         group = subst (λ l. Begun p kept x g.end l body) same
-            (begun_in p q new kept x (switched_bytes 13 y z g y.later b) (Now o) limit g.end (op_row.switch_done y z b o lies sound may is) new_sound (sound_kept y o sound may) more_is gate (op_row.new_there y z b o lies sound may is) early);
+            (begun_in p q new kept x (switched_bytes (kind_of y) y z g y.later b) (Now o) limit g.end (op_row.switch_done y z b o lies sound may is) new_sound (sound_kept y o sound may) more_is gate (op_row.new_there y z b o lies sound may is) early);
         plain = subst (λ l. read_plain (staged g.end body l) kept.index ≡ q) same early;
         size = omega (arith, body_long, gate_moves new limit (Now o), ap (λ k. gate_in k k.later) more_is, gate);
         torn = λ c torn. ⊎_elim
@@ -182,14 +182,14 @@ module _ (y : Layout) (z : Slots) (b : List ℕ) (o : Op) (lies : LiesAs (writte
             torn;
       }
 
-  begins_by : (t : Bool) → switches y n ≡ t → Begins p q kept (if t then slots_after y z y.later else z) (planned_by 13 y z body n t) b
+  begins_by : (t : Bool) → switches y n ≡ t → Begins p q kept (if t then slots_after y z y.later else z) (planned_by (kind_of y) y z body n t) b
   begins_by true is = there is
   begins_by false goes = here goes
 
-  begins : Begins p q kept (slots_with y z n) (planned 13 y z body) b
-  begins = subst (λ m. Begins p q kept (slots_with y z n) (planned_by 13 y z body m (switches y m)) b) (sym (record_long (Now o))) (begins_by (switches y n) refl)
+  begins : Begins p q kept (slots_with y z n) (planned (kind_of y) y z body) b
+  begins = subst (λ m. Begins p q kept (slots_with y z n) (planned_by (kind_of y) y z body m (switches y m)) b) (sym (record_long (Now o))) (begins_by (switches y n) refl)
 
-  pub begins_as : (w : Planned) → w ≡ planned 13 y z body → Begins p q kept (slots_with y z n) w b
+  pub begins_as : (w : Planned) → w ≡ planned (kind_of y) y z body → Begins p q kept (slots_with y z n) w b
   begins_as w is = subst (λ v. Begins p q kept (slots_with y z n) v b) (sym is) begins
 
 -- ---- what a crash leaves of a group ----

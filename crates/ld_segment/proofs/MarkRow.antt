@@ -8,7 +8,7 @@ use Rattle.ld_op.specs.Plain.{Plain}
 use Rattle.ld_op.specs.Bytes.{record_bytes}
 use Rattle.ld_op.specs.Cells.{read_plain}
 use Rattle.ld_layout.specs.Areas.{AreLive, IsHeld}
-use Rattle.ld_layout.specs.Layout.{Layout, Segment, base_length, closed_areas, live_areas, is_full_first, is_full_later, new_segment, switched_to, switches, IfSegment}
+use Rattle.ld_layout.specs.Layout.{Layout, Segment, base_length, used, closed_areas, live_areas, is_full_first, is_full_later, new_segment, switched_to, switches, IfSegment}
 use Rattle.ld_layout.proofs.Grows.{old_inside}
 use Rattle.ld_segment.specs.Left.{IsRecordTorn}
 use Rattle.ld_segment.specs.Bases.{HasNoLoss}
@@ -19,7 +19,7 @@ use Rattle.ld_segment.proofs.More.{more}
 use Rattle.ld_segment.proofs.Kept.{LeftAs}
 use Rattle.ld_segment.proofs.NoLoss.{first_opening, first_none}
 use Rattle.ld_segment.proofs.Before.{first_laid}
-use Rattle.ld_segment.proofs.Limits.{limit_of, not_past, limit_stays, fits_area, limit_new}
+use Rattle.ld_segment.proofs.Limits.{limit_of, some_room, not_past, limit_stays, fits_area, limit_new}
 use Rattle.ld_segment.specs.Plans.{planned, planned_end}
 use Rattle.ld_segment.proofs.Planning.{plan_fits}
 use Rattle.ld_segment.proofs.Kept as kept
@@ -28,14 +28,14 @@ use Rattle.ld_segment.proofs.Switched as switched
 -- ---- a layout with a mark ----
 
 abbrev shape : Layout → Option Segment → Layout
-shape y a = record { ops = y.ops; end = if is_none a then y.end + 7 else y.end; later = marked_later a; index = y.index }
+shape y a = record { ops = y.ops; end = if is_none a then y.end + 7 else y.end; later = marked_later a; index = y.index; grows = y.grows }
 
 with_is : (y : Layout) → more y y.later (limit_of y.later) Mark ≡ with_mark y
 with_is y = by y.later
   where
     by : (a : Option Segment) → more y a (limit_of a) Mark ≡ shape y a
-    by None = let ops : y.ops + 0 ≡ y.ops = omega arith in λ i. record { ops = ops i; end = y.end + 7; later = None; index = y.index }
-    by (Some g) = let ops : g.ops + 0 ≡ g.ops = omega arith in λ i. record { ops = y.ops; end = y.end; later = Some (record g { ops = ops i; end = g.end + 7 }); index = y.index }
+    by None = let ops : y.ops + 0 ≡ y.ops = omega arith in λ i. record { ops = ops i; end = y.end + 7; later = None; index = y.index; grows = y.grows }
+    by (Some g) = let ops : g.ops + 0 ≡ g.ops = omega arith in λ i. record { ops = y.ops; end = y.end; later = Some (record g { ops = ops i; end = g.end + 7 }); index = y.index; grows = y.grows }
 
 switched_with : (y : Layout) → more (switched_to y 7 0) (switched_to y 7 0).later (new_segment y 7 7).limit Mark ≡ with_mark (switched_to y 7 7)
 unfolding switched_to
@@ -50,7 +50,7 @@ held_more y (Some g) [] segment held = tt
 held_more y (Some g) (k ∷ ks) segment held = old_inside y 2 (Some g) (k ∷ ks) segment held
 
 laid_more : (y : Layout) (a : Option Segment) → AreLive (live_areas y a) → IfSegment a → is_full_later 2 a ≡ false → AreLive (live_areas (shape y a) (marked_later a)) × IfSegment (marked_later a)
-laid_more y None live segment goes = ((first_laid y.ops (y.end + 7) y.index).live, tt)
+laid_more y None live segment goes = ((first_laid y.ops (y.end + 7) y.index y.grows).live, tt)
 laid_more y (Some g) live segment goes = (live, record { behind = segment.behind; begun = omega (arith, segment.begun); within = omega (arith, not_past g Mark goes); ordered = segment.ordered })
 
 bounded_more : (y : Layout) (a : Option Segment) → IfBounded y.end a → IfBounded (shape y a).end (marked_later a)
@@ -93,7 +93,7 @@ sound_by y false goes sound fits = sound_mark y sound goes
 pub sound_marked : (y : Layout) → IsSound y → mark_passes y ≡ false → IsSound (marked_in y)
 sound_marked y sound fits = sound_by y (switches y 2) refl sound fits
 
-module _ (y : Layout) (z : Slots) (b : List ℕ) (lies : LiesAs First y z b) (sound : IsSound y) (fits : mark_passes y ≡ false) where
+module _ (y : Layout) (z : Slots) (b : List ℕ) (lies : LiesAs First y z b) (sound : IsSound y) (fits : mark_passes y ≡ false) (still : y.grows ≡ false) where
   abbrev body : List ℕ
   body = record_bytes Mark
 
@@ -144,22 +144,22 @@ module _ (y : Layout) (z : Slots) (b : List ℕ) (lies : LiesAs First y z b) (so
     switch_done = by y.later refl
       where
         by : (a : Option Segment) → y.later ≡ a → LeftAs First p new (slots_after y z a) (switched_bytes 9 y z (segment_for y 2) a b)
-        by None e = switched.first_done First 9 y z b lies sound 7 passes kind_is older e
-        by (Some g) e = switched.later_done First 9 y z b lies sound 7 passes kind_is older g e
+        by None e = switched.first_done First 9 y z b lies sound 7 passes kind_is older (sym still) e
+        by (Some g) e = switched.later_done First 9 y z b lies sound 7 passes kind_is older (sym still) g e
 
     switch_torn : (c : List ℕ) → IsAnySwitchTorn 9 y z (segment_for y 2) y.later b c → ((w : Slots) × LeftAs First p y w c) ⊎ (c ≡ b1)
     switch_torn c torn = by y.later refl torn
       where
         by : (a : Option Segment) → y.later ≡ a → IsAnySwitchTorn 9 y z (segment_for y 2) a b c → ((w : Slots) × LeftAs First p y w c) ⊎ (c ≡ switched_bytes 9 y z (segment_for y 2) a b)
-        by None e t = ⊎_elim (λ old. inl (z, old)) (λ done. inr done) (switched.first_torn First 9 y z b lies sound 7 passes kind_is older e c t)
-        by (Some g) e t = switched.later_torn First 9 y z b lies sound 7 passes kind_is older g e c t
+        by None e t = ⊎_elim (λ old. inl (z, old)) (λ done. inr done) (switched.first_torn First 9 y z b lies sound 7 passes kind_is older (sym still) e c t)
+        by (Some g) e t = switched.later_torn First 9 y z b lies sound 7 passes kind_is older (sym still) g e c t
 
     new_sound : IsSound new
     new_sound = sound_new y 0 sound (omega arith) is fits
 
     new_apart : (k : ℕ) → Standing new new.later k → (k < gate_in new new.later) ⊎ (gate_in new new.later + 6 + length body ≤ k)
     unfolding switched_to
-    new_apart k at = off_record new (Some (new_segment y 7 0)) ((new_segment y 7 0).end + 6 + length body) k new_sound.laid.live new_sound.laid.segment (omega arith) at
+    new_apart k at = off_record new (Some (new_segment y 7 0)) ((new_segment y 7 0).end + 6 + length body) k new_sound.laid.live new_sound.laid.segment (omega (arith, some_room y.grows (base_length y.index (used y.index (closed_areas y y.later))))) at
 
     marked_there : more new new.later (new_segment y 7 7).limit Mark ≡ marked_in y
     marked_there = switched_with y ∙ sym (ap (λ t. cond t (with_mark (switched_to y 7 7)) (with_mark y)) is)

@@ -12,7 +12,7 @@ use Rattle.ld_op.specs.Records.{applied, version_after, body_length}
 use Rattle.ld_op.specs.Bounds.{IsRecord}
 use Rattle.ld_op.specs.Bytes.{record_bytes}
 use Rattle.ld_layout.specs.Areas.{AreLive}
-use Rattle.ld_layout.specs.Layout.{Layout, Segment, room_for, live_areas, IsSegment, IfSegment}
+use Rattle.ld_layout.specs.Layout.{Layout, Segment, base_length, least_for, room_for, live_areas, IsSegment, IfSegment}
 use Rattle.ld_layout.specs.Base.{base_bytes}
 use Rattle.ld_layout.proofs.Lengths.{base_long}
 use Rattle.ld_segment.specs.Stays.{StaysOutside}
@@ -35,18 +35,20 @@ row_bodies opening version y z (Some g) rs b is = base_bytes is.current.kind is.
 
 -- a layout with a record more
 abbrev pub more : Layout → Option Segment → ℕ → Record → Layout
-more y None limit v = record { ops = y.ops + counts_as v; end = y.end + record_length (body_length v); later = None; index = applied y.index (placed_record (y.end + 5) v) }
+more y None limit v = record { ops = y.ops + counts_as v; end = y.end + record_length (body_length v); later = None; index = applied y.index (placed_record (y.end + 5) v); grows = y.grows }
 more y (Some g) limit v = record {
   ops = y.ops;
   end = y.end;
   later = Some (record g { ops = g.ops + counts_as v; end = g.end + record_length (body_length v); limit = limit });
   index = applied y.index (placed_record (g.end + 5) v);
+  grows = y.grows;
 }
 
--- the limit that the segment has then, whatever stands in front of its records
+-- the limit that the segment has then, however long its Base is
 abbrev pub HasLimit : Option Segment → ℕ → Record → Type 0
 HasLimit None limit v = Unit {0}
-HasLimit (Some g) limit v = (x : ℕ) (rs : List Record) → g.end + 1 ≡ x + place_behind rs → g.limit ≡ x + room_for (first_length rs) → limit ≡ x + room_for (first_length (rs ++ v ∷ []))
+HasLimit (Some g) limit v = (base : ℕ) (rs : List Record) → g.end + 1 ≡ g.place + record_length base + 1 + place_behind rs → g.limit ≡ g.place + record_length base + 1 + room_for (least_for g.grows base) (first_length rs)
+    → limit ≡ g.place + record_length base + 1 + room_for (least_for g.grows base) (first_length (rs ++ v ∷ []))
 
 -- behind records stands the last one's body
 pub body_there : (at gate : ℕ) (bodies : List (List ℕ)) (body c : List ℕ) → gate ≡ at + length (records bodies) → IsJournal (bodies ++ body ∷ []) (drop at c) → (rest : List ℕ) × (drop (gate + 5) c ≡ body ++ rest)
@@ -121,6 +123,7 @@ current_in opening version g index b c cur row = record {
   placed = cur.placed;
   based_is = cur.based_is;
   ops_is = cur.ops_is;
+  grows_is = cur.grows_is;
   end_is = cur.end_is;
   limit_is = cur.limit_is;
   index_is = cur.index_is;
@@ -166,8 +169,9 @@ module _ (opening version : Version) (y : Layout) (z : Slots) (rs : List Record)
       placed = placed-push cur.from version next cur.records v cur.placed is_record follows;
       based_is = cur.based_is;
       ops_is = omega (arith, cur.ops_is, count-push cur.records v);
+      grows_is = cur.grows_is;
       end_is = omega (arith, cur.end_is, place-push cur.records v);
-      limit_is = long (behind_base g cur.base + 1) cur.records (omega (arith, cur.end_is)) cur.limit_is;
+      limit_is = long (base_length cur.base g.areas) cur.records (omega (arith, cur.end_is)) cur.limit_is;
       index_is = (λ i. applied (cur.index_is i) (placed_record (cur.end_is i + 5) v)) ∙ sym (indexed-push (behind_base g cur.base) cur.base cur.records v);
     }
 

@@ -1,11 +1,11 @@
 -- A segment whose Base was just written.
-use Rattle.std.proofs.Common.{◌≡◌, refl, ℕ, ◌+◌, ◌<◌, ◌^◌, List, [], ◌∷◌, ◌++◌, length, take, drop, Some, sym, ◌∙◌, ap, arith, length-append, append_assoc, append-nil, take-append-drop}
+use Rattle.std.proofs.Common.{◌≡◌, refl, ℕ, ◌+◌, ◌<◌, ◌^◌, List, [], ◌∷◌, ◌++◌, length, take, drop, Some, sym, ◌∙◌, ap, arith, length-append, append_assoc, append-nil, take-append-drop, ◌==◌}
 use Rattle.std.proofs.lemmas.List.{take_at, drop_at, drop-drop}
 use Rattle.std.proofs.lemmas.List.Elements.{All-nil, All-cons}
 use Rattle.ld_journal.specs.Format.{framed}
 use Rattle.ld_op.specs.declared.version.Version.{Version}
 use Rattle.ld_layout.specs.Base.{base_bytes}
-use Rattle.ld_layout.specs.Layout.{Layout, Segment, base_length, entry_count, room_for, new_segment}
+use Rattle.ld_layout.specs.Layout.{Layout, Segment, least_for, growing, base_length, entry_count, room_for, new_segment}
 use Rattle.ld_layout.proofs.Lengths.{base_long}
 use Rattle.ld_segment.specs.Stays.{StandsAt}
 use Rattle.ld_segment.specs.Bases.{IsBase, HasNoLoss}
@@ -34,17 +34,18 @@ pub record IsNew (y : Layout) (g : Segment) : Type 0 where
   pub based : g.based ≡ entry_count y.index.logs
   pub ops : g.ops ≡ 0
   pub end : g.end ≡ behind_base g y.index
-  pub limit : g.limit ≡ behind_base g y.index + 1 + room_for 0
+  pub grows : g.grows ≡ y.grows
+  pub limit : g.limit ≡ behind_base g y.index + 1 + room_for (least_for g.grows (base_length y.index g.areas)) 0
 
 pub new_is : (y : Layout) (cause : ℕ) → IsNew y (new_segment y cause 0)
-new_is y cause = record { based = refl; ops = refl; end = omega arith; limit = omega arith }
+new_is y cause = record { based = refl; ops = refl; end = omega arith; grows = refl; limit = omega arith }
 
 pub base_record_long : (kind : ℕ) (y : Layout) (g : Segment) → length (base_record kind y g) ≡ 6 + base_length y.index g.areas
 base_record_long kind y g = omega (arith, length-append (framed (base_bytes kind y.index g.areas)) (0 ∷ []), base_long kind y.index g.areas)
 
-pub new_current : (kind : ℕ) (opening from : Version) (y : Layout) (g : Segment) (c : List ℕ) → after_base kind opening ≡ Some from → (kind ≡ 9 → HasNoLoss y.index) → IsBase y.index g.areas → IsNew y g → StandsAt g.place (base_record kind y g) c
+pub new_current : (kind : ℕ) (opening from : Version) (y : Layout) (g : Segment) (c : List ℕ) → after_base kind opening ≡ Some from → (kind ≡ 9 → HasNoLoss y.index) → (kind == growing) ≡ y.grows → IsBase y.index g.areas → IsNew y g → StandsAt g.place (base_record kind y g) c
     → IsCurrent opening from g y.index c
-new_current kind opening from y g c kind_is older is_base new stands =
+new_current kind opening from y g c kind_is older room_is is_base new stands =
     let base : List ℕ = base_bytes kind y.index g.areas in
     let rest : List ℕ = drop (length (base_record kind y g)) (drop g.place c) in
     record {
@@ -65,6 +66,7 @@ new_current kind opening from y g c kind_is older is_base new stands =
       placed = record { are = tt; version_is = refl };
       based_is = new.based;
       ops_is = new.ops;
+      grows_is = new.grows ∙ sym room_is;
       end_is = omega (arith, new.end);
       limit_is = new.limit;
       index_is = refl;

@@ -1,5 +1,5 @@
 -- Bytes lie in one way at most: as one layout says, in a journal of one version.
-use Rattle.std.proofs.Common.{◌≡◌, ℕ, ◌+◌, ◌<◌, ◌^◌, List, [], ◌∷◌, drop, Option, Some, None, is_some, refl, sym, ◌∙◌, ap, subst, arith}
+use Rattle.std.proofs.Common.{◌≡◌, ℕ, ◌+◌, ◌<◌, ◌^◌, List, [], ◌∷◌, drop, Option, Some, None, is_some, refl, sym, ◌∙◌, ap, subst, arith, ◌==◌}
 use Rattle.ld_journal.specs.Format.{IsJournal}
 use Rattle.ld_journal.proofs.Reading.{one_reading}
 use Rattle.ld_msg.specs.Register.{record_length}
@@ -7,7 +7,7 @@ use Rattle.ld_op.specs.declared.record.Record.{Record}
 use Rattle.ld_op.specs.declared.version.Version.{Version}
 use Rattle.ld_op.specs.Plain.{Plain, unformatted}
 use Rattle.ld_layout.specs.Base.{Base, base_bytes}
-use Rattle.ld_layout.specs.Layout.{Layout, Segment, base_length, entry_count, room_for, IfSegment}
+use Rattle.ld_layout.specs.Layout.{Layout, Segment, base_length, entry_count, least_for, room_for, growing, IfSegment}
 use Rattle.ld_segment.specs.Ops.{bodies_of, place_behind, op_count, indexed, version_on, ArePlaced}
 use Rattle.ld_segment.specs.Lies.{Slots, first_length, behind_base, IfBounded, IsLater, IsIndexed, LiesAs, IsSound}
 use Rattle.ld_segment.specs.Later.{IsBaseAt}
@@ -59,15 +59,19 @@ module _ (opening version other : Version) (head : ℕ) (z x : Slots) (g h : Seg
   behind : behind_base g here.current.base ≡ behind_base h there.current.base
   behind = λ i. place i + record_length (base_length (base i).index (base i).areas)
 
+  grows : g.grows ≡ h.grows
+  grows = here.current.grows_is ∙ ap (λ c. c.kind == growing) base ∙ sym there.current.grows_is
+
   segment : g ≡ h
   segment = λ i. record {
     place = place i;
     based = (here.current.based_is ∙ ap (λ c. entry_count c.index.logs) base ∙ sym there.current.based_is) i;
     ops = (here.current.ops_is ∙ ap op_count records ∙ sym there.current.ops_is) i;
     end = (here.current.end_is ∙ (λ j. behind j + place_behind (records j)) ∙ sym there.current.end_is) i;
-    limit = (here.current.limit_is ∙ (λ j. behind j + 1 + room_for (first_length (records j))) ∙ sym there.current.limit_is) i;
+    limit = (here.current.limit_is ∙ (λ j. behind j + 1 + room_for (least_for (grows j) (base_length (base j).index (base j).areas)) (first_length (records j))) ∙ sym there.current.limit_is) i;
     areas = (base i).areas;
     number = told.1.0 i;
+    grows = grows i;
   }
 
   one_segment : (version ≡ other) × (g ≡ h) × (p ≡ q)
@@ -93,11 +97,11 @@ one_later y x (Some g) (Some h) z q opening v w us vs bytes rows ends kind seg_a
     fit_a.number (omega (arith, fit_a.limit, seg_a.begun, seg_a.within)) fit_b.number (omega (arith, fit_b.limit, seg_b.begun, seg_b.within)) in
     (one.0, ap (λ s. Some s) one.1, one.2)
 
-pub one_way : (v w : Version) (y x : Layout) (z q : Slots) (bytes : List ℕ) → LiesAs v y z bytes → IsSound y → LiesAs w x q bytes → IsSound x → (v ≡ w) × (y ≡ x)
+pub one_way : (v w : Version) (y x : Layout) (z q : Slots) (bytes : List ℕ) → LiesAs v y z bytes → IsSound y → LiesAs w x q bytes → IsSound x → (v ≡ w) × (y ≡ record x { grows = y.grows })
 one_way v w y x z q bytes here sound_here there sound_there =
     let rows = same_rows y x y.later x.later here.records there.records here.placed.are there.placed.are (one_reading bytes _ _ here.journal there.journal) in
     let ends : y.end ≡ x.end = here.end_is ∙ ap place_behind rows.0 ∙ sym there.end_is in
     let first : there.first ≡ here.first = sym (one_version _ _ here.first there.first here.records there.records refl rows.0 here.placed there.placed) in
     let rest = one_later y x y.later x.later z q here.first v w here.records there.records bytes rows.0 ends rows.1 sound_here.laid.segment sound_there.laid.segment sound_here.bounded sound_there.bounded
     here.index_is (subst (λ o. IsIndexed o w x q x.later there.records bytes) first there.index_is) in
-    (rest.0, λ i. record { ops = (here.ops_is ∙ ap op_count rows.0 ∙ sym there.ops_is) i; end = ends i; later = rest.1 i; index = rest.2 i })
+    (rest.0, λ i. record { ops = (here.ops_is ∙ ap op_count rows.0 ∙ sym there.ops_is) i; end = ends i; later = rest.1 i; index = rest.2 i; grows = y.grows })

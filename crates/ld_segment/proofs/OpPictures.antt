@@ -11,7 +11,7 @@ use Rattle.ld_op.specs.declared.record.Record.TheVariants.{Now}
 use Rattle.ld_op.specs.Plain.{Plain, apply, op_length}
 use Rattle.ld_op.specs.Bytes.{op_bytes}
 use Rattle.ld_op.specs.Cells.{read_plain}
-use Rattle.ld_layout.specs.Layout.{Layout, Segment, switches, switched_to, switch_calls, laid_for, kept_in}
+use Rattle.ld_layout.specs.Layout.{Layout, Segment, kind_of, switches, switched_to, switch_calls, laid_for, kept_in}
 use Rattle.ld_segment.specs.Left.{Switching, safe_calls, based, named, laid_out}
 use Rattle.ld_segment.specs.Slots.{head_bytes}
 use Rattle.ld_segment.specs.Lies.{Slots, LiesAs, IsSound, MayKeep, written, gate_in, segment_for, first_slots, first_switch, next_switch, switch_row, slots_after, switched_bytes, calls_by, op_row, switching, gate_shows, layout_left, plain_left}
@@ -110,10 +110,10 @@ module _ (y : Layout) (z : Slots) (b : List ℕ) (o : Op) (lies : LiesAs (writte
     New = Has p new
 
     record_part : (a : Option Segment) → y.later ≡ a → (call : ℕ) (how : Option Picture) (later : List Picture) → 1 ≤ call → call ≤ 4
-        → Choose (gate_shows 4 call how later) New Kept (reads_as later (after_calls (append_calls g.end body) (told call how (switched_bytes 13 y z g a b))).state)
+        → Choose (gate_shows 4 call how later) New Kept (reads_as later (after_calls (append_calls g.end body) (told call how (switched_bytes (kind_of y) y z g a b))).state)
     record_part a e call how later least most =
-        subst (λ t. Choose (gate_shows 4 call how later) New Kept (reads_as later (after_calls (append_calls g.end body) (told call how (switched_bytes 13 y z g t b))).state)) e
-        (record_cut g.end body (switched_bytes 13 y z g y.later b) New Kept
+        subst (λ t. Choose (gate_shows 4 call how later) New Kept (reads_as later (after_calls (append_calls g.end body) (told call how (switched_bytes (kind_of y) y z g t b))).state)) e
+        (record_cut g.end body (switched_bytes (kind_of y) y z g y.later b) New Kept
         (λ c torn. (slots_after y z y.later, row.new_staged y z b o lies sound may is c torn))
         (λ c torn shut. (slots_after y z y.later, row.new_shut y z b o lies sound may is c torn shut))
         (slots_after y z y.later, row.new_there y z b o lies sound may is)
@@ -125,31 +125,31 @@ module _ (y : Layout) (z : Slots) (b : List ℕ) (o : Op) (lies : LiesAs (writte
       head = head_bytes (y.end + 15)
 
       abbrev laid : List ℕ
-      laid = laid_out (first_switch 13 y g) b
+      laid = laid_out (first_switch (kind_of y) y g) b
 
       abbrev first_row : List Call
-      first_row = switch_row 13 y z g None ++ append_calls g.end body
+      first_row = switch_row (kind_of y) y z g None ++ append_calls g.end body
 
       slots_cut : (call : ℕ) (how : Option Picture) (later : List Picture) → 1 ≤ call → call ≤ 2 → Old (reads_as later (after_calls first_row (told call how b)).state)
       slots_cut call how later least most =
-          early_cut (y.end + 15) (first_slots 13 y g) b Old (λ c torn. (z, switched.first_slots_torn (written y) 13 y z b lies sound (row.cause y z b o lies sound may is) (row.passes y z b o lies sound may is) (row.kind_is y z b o lies sound may is) (row.not_nine y z b o lies sound may is) e c torn)) (append_calls y.end head ++ append_calls g.end body) call how later least most
+          early_cut (y.end + 15) (first_slots (kind_of y) y g) b Old (λ c torn. (z, switched.first_slots_torn (written y) (kind_of y) y z b lies sound (row.cause y z b o lies sound may is) (row.passes y z b o lies sound may is) (row.kind_is y z b o lies sound may is) (row.not_nine y z b o lies sound may is) (row.room_is y z b o lies sound may is) e c torn)) (append_calls y.end head ++ append_calls g.end body) call how later least most
 
       past_slots : (k : ℕ) (how : Option Picture) → after_calls first_row (told (suc (suc (suc k))) how b) ≡ after_calls (append_calls y.end head ++ append_calls g.end body) (told (suc k) how laid)
-      past_slots k how = past_safe (y.end + 15) (first_slots 13 y g) (append_calls y.end head ++ append_calls g.end body) b k how
+      past_slots k how = past_safe (y.end + 15) (first_slots (kind_of y) y g) (append_calls y.end head ++ append_calls g.end body) b k how
 
       head_cut : (k : ℕ) (how : Option Picture) (later : List Picture) → k ≤ 3 → Choose (gate_shows 4 (suc k) how later) Old New (reads_as later (after_calls first_row (told (suc (suc (suc k))) how b)).state)
       head_cut k how later most =
           subst (λ s. Choose (gate_shows 4 (suc k) how later) Old New (reads_as later s.state)) (sym (past_slots k how))
           (record_cut y.end head laid Old New
-          (λ c torn. (z, switched.first_head_torn (written y) 13 y z b lies sound (row.cause y z b o lies sound may is) (row.passes y z b o lies sound may is) (row.kind_is y z b o lies sound may is) (row.not_nine y z b o lies sound may is) e c torn))
-          (λ c torn shut. (z, switched.first_head_shut (written y) 13 y z b lies sound (row.cause y z b o lies sound may is) (row.passes y z b o lies sound may is) (row.kind_is y z b o lies sound may is) (row.not_nine y z b o lies sound may is) e c torn shut))
+          (λ c torn. (z, switched.first_head_torn (written y) (kind_of y) y z b lies sound (row.cause y z b o lies sound may is) (row.passes y z b o lies sound may is) (row.kind_is y z b o lies sound may is) (row.not_nine y z b o lies sound may is) (row.room_is y z b o lies sound may is) e c torn))
+          (λ c torn shut. (z, switched.first_head_shut (written y) (kind_of y) y z b lies sound (row.cause y z b o lies sound may is) (row.passes y z b o lies sound may is) (row.kind_is y z b o lies sound may is) (row.not_nine y z b o lies sound may is) (row.room_is y z b o lies sound may is) e c torn shut))
           (slots_after y z None, row.first_done y z b o lies sound may is e)
           (append_calls g.end body) (suc k) how later (omega arith) (omega arith))
 
-      past_head : (k : ℕ) (how : Option Picture) → after_calls first_row (told (suc (suc (suc (suc (suc (suc (suc k))))))) how b) ≡ after_calls (append_calls g.end body) (told (suc k) how (switched_bytes 13 y z g None b))
+      past_head : (k : ℕ) (how : Option Picture) → after_calls first_row (told (suc (suc (suc (suc (suc (suc (suc k))))))) how b) ≡ after_calls (append_calls g.end body) (told (suc k) how (switched_bytes (kind_of y) y z g None b))
       past_head k how = past_slots (suc (suc (suc (suc k)))) how ∙ past_record y.end head laid Old New
-          (λ c torn. (z, switched.first_head_torn (written y) 13 y z b lies sound (row.cause y z b o lies sound may is) (row.passes y z b o lies sound may is) (row.kind_is y z b o lies sound may is) (row.not_nine y z b o lies sound may is) e c torn))
-          (λ c torn shut. (z, switched.first_head_shut (written y) 13 y z b lies sound (row.cause y z b o lies sound may is) (row.passes y z b o lies sound may is) (row.kind_is y z b o lies sound may is) (row.not_nine y z b o lies sound may is) e c torn shut))
+          (λ c torn. (z, switched.first_head_torn (written y) (kind_of y) y z b lies sound (row.cause y z b o lies sound may is) (row.passes y z b o lies sound may is) (row.kind_is y z b o lies sound may is) (row.not_nine y z b o lies sound may is) (row.room_is y z b o lies sound may is) e c torn))
+          (λ c torn shut. (z, switched.first_head_shut (written y) (kind_of y) y z b lies sound (row.cause y z b o lies sound may is) (row.passes y z b o lies sound may is) (row.kind_is y z b o lies sound may is) (row.not_nine y z b o lies sound may is) (row.room_is y z b o lies sound may is) e c torn shut))
           (slots_after y z None, row.first_done y z b o lies sound may is e)
           (append_calls g.end body) k how
 
@@ -173,24 +173,24 @@ module _ (y : Layout) (z : Slots) (b : List ℕ) (o : Op) (lies : LiesAs (writte
     -- a later one
     module _ (s : Segment) (e : y.later ≡ Some s) where
       abbrev w : Switching
-      w = next_switch 13 y z g
+      w = next_switch (kind_of y) y z g
 
       abbrev gates : List Call
       gates = safe_calls w.slot_at (1 ∷ []) ++ append_calls g.end body
 
       abbrev later_row : List Call
-      later_row = switch_row 13 y z g (Some s) ++ append_calls g.end body
+      later_row = switch_row (kind_of y) y z g (Some s) ++ append_calls g.end body
 
       base_cut : (call : ℕ) (how : Option Picture) (later : List Picture) → 1 ≤ call → call ≤ 3 → Old (reads_as later (after_calls later_row (told call how b)).state)
       base_cut call how later least most =
-          twice_cut w.base_at w.base w.slot_at w.shut b Old (λ c torn. switched.later_base_torn (written y) 13 y z b lies sound (row.cause y z b o lies sound may is) (row.passes y z b o lies sound may is) (row.kind_is y z b o lies sound may is) (row.not_nine y z b o lies sound may is) s e c torn) (safe_calls (w.slot_at + 1) w.says ++ gates) call how later least most
+          twice_cut w.base_at w.base w.slot_at w.shut b Old (λ c torn. switched.later_base_torn (written y) (kind_of y) y z b lies sound (row.cause y z b o lies sound may is) (row.passes y z b o lies sound may is) (row.kind_is y z b o lies sound may is) (row.not_nine y z b o lies sound may is) (row.room_is y z b o lies sound may is) s e c torn) (safe_calls (w.slot_at + 1) w.says ++ gates) call how later least most
 
       past_base : (k : ℕ) (how : Option Picture) → after_calls later_row (told (suc (suc (suc (suc k)))) how b) ≡ after_calls (safe_calls (w.slot_at + 1) w.says ++ gates) (told (suc k) how (based w b))
       past_base k how = past_both w.base_at w.base w.slot_at w.shut (safe_calls (w.slot_at + 1) w.says ++ gates) b k how
 
       says_cut : (k : ℕ) (how : Option Picture) (later : List Picture) → k ≤ 1 → Old (reads_as later (after_calls later_row (told (suc (suc (suc (suc k)))) how b)).state)
       says_cut k how later most = subst (λ t. Old (reads_as later t.state)) (sym (past_base k how))
-          (early_cut (w.slot_at + 1) w.says (based w b) Old (λ c torn. switched.later_says_torn (written y) 13 y z b lies sound (row.cause y z b o lies sound may is) (row.passes y z b o lies sound may is) (row.kind_is y z b o lies sound may is) (row.not_nine y z b o lies sound may is) s e c torn) gates (suc k) how later (omega arith) (omega arith))
+          (early_cut (w.slot_at + 1) w.says (based w b) Old (λ c torn. switched.later_says_torn (written y) (kind_of y) y z b lies sound (row.cause y z b o lies sound may is) (row.passes y z b o lies sound may is) (row.kind_is y z b o lies sound may is) (row.not_nine y z b o lies sound may is) (row.room_is y z b o lies sound may is) s e c torn) gates (suc k) how later (omega arith) (omega arith))
 
       past_says : (k : ℕ) (how : Option Picture) → after_calls later_row (told (suc (suc (suc (suc (suc (suc k)))))) how b) ≡ after_calls gates (told (suc k) how (named w b))
       past_says k how = past_base (suc (suc k)) how ∙ past_safe (w.slot_at + 1) w.says gates (based w b) k how
@@ -198,12 +198,12 @@ module _ (y : Layout) (z : Slots) (b : List ℕ) (o : Op) (lies : LiesAs (writte
       open_cut : (k : ℕ) (how : Option Picture) (later : List Picture) → k ≤ 1 → Choose (gate_shows 2 (suc k) how later) Old New (reads_as later (after_calls later_row (told (suc (suc (suc (suc (suc (suc k)))))) how b)).state)
       open_cut k how later most = subst (λ t. Choose (gate_shows 2 (suc k) how later) Old New (reads_as later t.state)) (sym (past_says k how))
           (gate_cut w.slot_at (named w b) Old New
-          (switched.later_says_torn (written y) 13 y z b lies sound (row.cause y z b o lies sound may is) (row.passes y z b o lies sound may is) (row.kind_is y z b o lies sound may is) (row.not_nine y z b o lies sound may is) s e (named w b) (torn_whole (w.slot_at + 1) w.says (based w b)))
-          (λ c torn shut. switched.later_shut (written y) 13 y z b lies sound (row.cause y z b o lies sound may is) (row.passes y z b o lies sound may is) (row.kind_is y z b o lies sound may is) (row.not_nine y z b o lies sound may is) s e c torn shut)
+          (switched.later_says_torn (written y) (kind_of y) y z b lies sound (row.cause y z b o lies sound may is) (row.passes y z b o lies sound may is) (row.kind_is y z b o lies sound may is) (row.not_nine y z b o lies sound may is) (row.room_is y z b o lies sound may is) s e (named w b) (torn_whole (w.slot_at + 1) w.says (based w b)))
+          (λ c torn shut. switched.later_shut (written y) (kind_of y) y z b lies sound (row.cause y z b o lies sound may is) (row.passes y z b o lies sound may is) (row.kind_is y z b o lies sound may is) (row.not_nine y z b o lies sound may is) (row.room_is y z b o lies sound may is) s e c torn shut)
           (slots_after y z (Some s), row.later_done y z b o lies sound may is s e)
           (append_calls g.end body) (suc k) how later (omega arith) (omega arith))
 
-      past_gate : (k : ℕ) (how : Option Picture) → after_calls later_row (told (suc (suc (suc (suc (suc (suc (suc (suc k)))))))) how b) ≡ after_calls (append_calls g.end body) (told (suc k) how (switched_bytes 13 y z g (Some s) b))
+      past_gate : (k : ℕ) (how : Option Picture) → after_calls later_row (told (suc (suc (suc (suc (suc (suc (suc (suc k)))))))) how b) ≡ after_calls (append_calls g.end body) (told (suc k) how (switched_bytes (kind_of y) y z g (Some s) b))
       past_gate k how = past_says (suc (suc k)) how ∙ past_safe w.slot_at (1 ∷ []) (append_calls g.end body) (named w b) k how
 
       late_cut : (k : ℕ) (how : Option Picture) (later : List Picture) → k ≤ 3 → Choose (gate_shows 4 (suc k) how later) New Kept (reads_as later (after_calls later_row (told (suc (suc (suc (suc (suc (suc (suc (suc k)))))))) how b)).state)
@@ -226,10 +226,10 @@ module _ (y : Layout) (z : Slots) (b : List ℕ) (o : Op) (lies : LiesAs (writte
 
     -- either
     switch_cut : (call : ℕ) (how : Option Picture) (later : List Picture) → 1 ≤ call → call ≤ switch_calls y.later + 4
-        → Chosen (switch_calls y.later) call how later Old New Kept (reads_as later (after_calls (switch_row 13 y z g y.later ++ append_calls g.end body) (told call how b)).state)
+        → Chosen (switch_calls y.later) call how later Old New Kept (reads_as later (after_calls (switch_row (kind_of y) y z g y.later ++ append_calls g.end body) (told call how b)).state)
     switch_cut call how later least most = by y.later refl most
       where
-        by : (a : Option Segment) → y.later ≡ a → call ≤ switch_calls a + 4 → Chosen (switch_calls a) call how later Old New Kept (reads_as later (after_calls (switch_row 13 y z g a ++ append_calls g.end body) (told call how b)).state)
+        by : (a : Option Segment) → y.later ≡ a → call ≤ switch_calls a + 4 → Chosen (switch_calls a) call how later Old New Kept (reads_as later (after_calls (switch_row (kind_of y) y z g a ++ append_calls g.end body) (told call how b)).state)
         by None e few = first_cut e call how later least few
         by (Some s) e few = later_cut s e call how later least few
 
@@ -244,7 +244,7 @@ module _ (y : Layout) (z : Slots) (b : List ℕ) (o : Op) (lies : LiesAs (writte
       (subst (λ l. (w : Slots) × Left (cond (gate_shows (calls + 4) call how later) q p) (cond (gate_shows (calls + 4) call how later) (kept_in y o) (cond (not (nat_le call calls) || gate_shows calls call how later) l y)) w c) (sym laid)
       (chosen p q y new (kept_in y o) c (gate_shows (calls + 4) call how later) (not (nat_le call calls) || gate_shows calls call how later) left))
 
-  result_by : (t : Bool) → switches y n ≡ t → (call : ℕ) (how : Option Picture) (later : List Picture) → 1 ≤ call → call ≤ switching y o + 4 → Result call how later (reads_as later (after_calls (calls_by 13 y z body n t) (told call how b)).state)
+  result_by : (t : Bool) → switches y n ≡ t → (call : ℕ) (how : Option Picture) (later : List Picture) → 1 ≤ call → call ≤ switching y o + 4 → Result call how later (reads_as later (after_calls (calls_by (kind_of y) y z body n t) (told call how b)).state)
   result_by true is call how later least most =
       let so_many : switching y o ≡ switch_calls y.later = ap (λ t. cond t (switch_calls y.later) 0) is in
       let laid : laid_for y o 0 ≡ new is = ap (λ t. cond t (new is) y) is in
@@ -258,7 +258,7 @@ module _ (y : Layout) (z : Slots) (b : List ℕ) (o : Op) (lies : LiesAs (writte
       → Result call how later (crashed_by later (after_calls (op_row y z o) d).state).bytes
   decided call how later d safe is most =
       let same : told call how b ≡ d = λ i. record { state = sym safe i; armed = sym is.told i; crashed = sym is.stands i } in
-      let calls : op_row y z o ≡ calls_by 13 y z body n (switches y n) = ap (λ m. calls_by 13 y z body m (switches y m)) (record_long (Now o)) in
+      let calls : op_row y z o ≡ calls_by (kind_of y) y z body n (switches y n) = ap (λ m. calls_by (kind_of y) y z body m (switches y m)) (record_long (Now o)) in
       subst (λ t. Result call how later (crashed_by later (after_calls (op_row y z o) t).state).bytes) same
       (subst (λ l. Result call how later l) (sym (crashed_reads later (after_calls (op_row y z o) (told call how b)).state))
       (subst (λ cs. Result call how later (reads_as later (after_calls cs (told call how b)).state)) (sym calls) (result_by (switches y n) refl call how later is.counts most)))

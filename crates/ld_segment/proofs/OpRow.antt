@@ -1,17 +1,18 @@
 -- All calls of an op: what a crash leaves, and what all of them make.
-use Rattle.std.proofs.Common.{◌≡◌, ◌≢◌, ◌⊎◌, inl, inr, ⊎_elim, refl, ℕ, ◌+◌, ◌≤◌, ◌<◌, ◌==◌, ◌||◌, nat_le, List, [], ◌∷◌, length, get_or, Option, None, Some, Bool, true, false, cond, if◌then◌else◌, sym, ◌∙◌, ap, subst, arith}
+use Rattle.std.proofs.Common.{◌≡◌, ◌≢◌, ◌⊎◌, inl, inr, ⊎_elim, refl, ℕ, ◌+◌, ◌≤◌, ◌<◌, ◌==◌, ◌||◌, ◌&&◌, nat_le, List, [], ◌∷◌, length, get_or, Option, None, Some, Bool, true, false, cond, if◌then◌else◌, sym, ◌∙◌, ap, subst, arith}
 use Rattle.std.proofs.lemmas.Bool.{or_parts, leb-true}
 use Rattle.std.proofs.lemmas.Bool.Decides.{nat_tests}
 use Rattle.ld_msg.specs.Register.{record_length}
 use Rattle.ld_op.specs.declared.op.Op.{Op}
 use Rattle.ld_op.specs.declared.record.Record.{Record}
 use Rattle.ld_op.specs.declared.record.Record.TheVariants.{Now}
-use Rattle.ld_op.specs.declared.version.Version.TheVariants.{Blank, Second}
+use Rattle.ld_op.specs.declared.version.Version.TheVariants.{Blank, First, Second}
 use Rattle.ld_op.specs.Plain.{Plain, apply, op_length}
+use Rattle.ld_op.specs.Records as stages
 use Rattle.ld_op.specs.Records.{version_after, is_blank}
 use Rattle.ld_op.specs.Bytes.{op_bytes}
 use Rattle.ld_op.specs.Cells.{read_plain, placed}
-use Rattle.ld_layout.specs.Layout.{Layout, Segment, gate_of, is_first, is_full_first, is_full_later, full_ops, new_segment, switched_to, switches, later_with, with_record, kept_in}
+use Rattle.ld_layout.specs.Layout.{Layout, Segment, growing, kind_by, kind_of, gate_of, is_first, is_full_first, is_full_later, full_ops, new_segment, switched_to, switches, later_with, with_record, kept_in}
 use Rattle.ld_disk.specs.Images.{Torn}
 use Rattle.ld_journal.specs.Format.{behind}
 use Rattle.ld_segment.specs.Left.{staged, IsRecordTorn}
@@ -47,6 +48,7 @@ shape y a o = record {
   end = if is_first a then y.end + record_length (op_length o) else y.end;
   later = later_with a (op_length o);
   index = apply y.index (placed (gate_of y a + 5) o);
+  grows = y.grows;
 }
 
 with_is : (y : Layout) (o : Op) → with_record y o ≡ more y y.later (limit_of y.later) (Now o)
@@ -60,6 +62,20 @@ with_is y o = by y.later
 switched_with : (y : Layout) (o : Op) (cause : ℕ) → with_record (switched_to y cause cause) o ≡ more (switched_to y cause 0) (switched_to y cause 0).later (new_segment y cause cause).limit (Now o)
 unfolding with_record switched_to
 switched_with y o cause = refl
+
+-- ---- the first byte of a Base ----
+
+kind_second : (grows : Bool) → ((kind_by grows == 13) || (kind_by grows == growing)) ≡ true
+kind_second true = refl
+kind_second false = refl
+
+never_nine : (grows : Bool) → kind_by grows ≡ 9 → ⊥
+never_nine true nine = omega (arith, nine)
+never_nine false nine = omega (arith, nine)
+
+kind_grows : (grows : Bool) → (kind_by grows == growing) ≡ grows
+kind_grows true = refl
+kind_grows false = refl
 
 module _ (y : Layout) (z : Slots) (b : List ℕ) (o : Op) (lies : LiesAs (written y) y z b) (sound : IsSound y) (may : MayKeep y o) where
   abbrev n : ℕ
@@ -130,7 +146,7 @@ module _ (y : Layout) (z : Slots) (b : List ℕ) (o : Op) (lies : LiesAs (writte
     x = slots_after y z y.later
 
     abbrev pub b1 : List ℕ
-    b1 = switched_bytes 13 y z (segment_for y n) y.later b
+    b1 = switched_bytes (kind_of y) y z (segment_for y n) y.later b
 
     pub passes : Passes y (new_segment y cause 0)
     passes = less_room y cause 0 (omega arith) (passes_switch y o is may.fits)
@@ -140,36 +156,40 @@ module _ (y : Layout) (z : Slots) (b : List ℕ) (o : Op) (lies : LiesAs (writte
     second_by None e = some_full y.ops (sym (ap (λ t. is_full_first y t || is_full_later n t) e) ∙ is)
     second_by (Some g) e = some_ops lies.first y z g y.index b (subst (λ t. IsIndexed lies.first (written y) y z t lies.records b) e lies.index_is)
 
-    pub kind_is : after_base 13 lies.first ≡ Some (written y)
+    pub kind_is : after_base (kind_of y) lies.first ≡ Some (written y)
     kind_is =
         let some = second_by y.later refl in
         let opened : is_blank lies.first ≡ false = blank_is lies.records lies.first lies.placed.version_is ∙ some_there lies.records (sym (ap (λ n. n == 0) lies.ops_is) ∙ some) in
-        ap (λ t. cond t None (Some Second)) opened ∙ ap (λ t. Some (cond t Blank Second)) (sym some)
+        ap (λ t. cond t None (cond ((kind_of y == 13) || (kind_of y == growing)) (Some Second) (cond ((kind_of y == 9) && stages.is_first lies.first) (Some First) None))) opened
+        ∙ ap (λ t. cond t (Some Second) (cond ((kind_of y == 9) && stages.is_first lies.first) (Some First) None)) (kind_second y.grows) ∙ ap (λ t. Some (cond t Blank Second)) (sym some)
 
-    pub not_nine : ◌≡◌ {A = ℕ} 13 9 → HasNoLoss y.index
-    not_nine nine = absurd (omega (arith, nine))
+    pub not_nine : kind_of y ≡ 9 → HasNoLoss y.index
+    not_nine nine = absurd (never_nine y.grows nine)
 
-    pub first_done : y.later ≡ None → Left p new (slots_after y z None) (switched_bytes 13 y z (segment_for y n) None b)
+    pub room_is : (kind_of y == growing) ≡ y.grows
+    room_is = kind_grows y.grows
+
+    pub first_done : y.later ≡ None → Left p new (slots_after y z None) (switched_bytes (kind_of y) y z (segment_for y n) None b)
     unfolding switched_to
-    first_done e = switched.first_done (written y) 13 y z b lies sound cause passes kind_is not_nine e
+    first_done e = switched.first_done (written y) (kind_of y) y z b lies sound cause passes kind_is not_nine room_is e
 
-    pub later_done : (g : Segment) → y.later ≡ Some g → Left p new (slots_after y z (Some g)) (switched_bytes 13 y z (segment_for y n) (Some g) b)
+    pub later_done : (g : Segment) → y.later ≡ Some g → Left p new (slots_after y z (Some g)) (switched_bytes (kind_of y) y z (segment_for y n) (Some g) b)
     unfolding switched_to
-    later_done g e = switched.later_done (written y) 13 y z b lies sound cause passes kind_is not_nine g e
+    later_done g e = switched.later_done (written y) (kind_of y) y z b lies sound cause passes kind_is not_nine room_is g e
 
     pub switch_done : Left p new x b1
     switch_done = by y.later refl
       where
-        by : (a : Option Segment) → y.later ≡ a → Left p new (slots_after y z a) (switched_bytes 13 y z (segment_for y n) a b)
+        by : (a : Option Segment) → y.later ≡ a → Left p new (slots_after y z a) (switched_bytes (kind_of y) y z (segment_for y n) a b)
         by None e = first_done e
         by (Some g) e = later_done g e
 
-    pub switch_torn : (c : List ℕ) → IsAnySwitchTorn 13 y z (segment_for y n) y.later b c → ((w : Slots) × Left p y w c) ⊎ (c ≡ b1)
+    pub switch_torn : (c : List ℕ) → IsAnySwitchTorn (kind_of y) y z (segment_for y n) y.later b c → ((w : Slots) × Left p y w c) ⊎ (c ≡ b1)
     switch_torn c torn = by y.later refl torn
       where
-        by : (a : Option Segment) → y.later ≡ a → IsAnySwitchTorn 13 y z (segment_for y n) a b c → ((w : Slots) × Left p y w c) ⊎ (c ≡ switched_bytes 13 y z (segment_for y n) a b)
-        by None e t = ⊎_elim (λ old. inl (z, old)) (λ done. inr done) (switched.first_torn (written y) 13 y z b lies sound cause passes kind_is not_nine e c t)
-        by (Some g) e t = switched.later_torn (written y) 13 y z b lies sound cause passes kind_is not_nine g e c t
+        by : (a : Option Segment) → y.later ≡ a → IsAnySwitchTorn (kind_of y) y z (segment_for y n) a b c → ((w : Slots) × Left p y w c) ⊎ (c ≡ switched_bytes (kind_of y) y z (segment_for y n) a b)
+        by None e t = ⊎_elim (λ old. inl (z, old)) (λ done. inr done) (switched.first_torn (written y) (kind_of y) y z b lies sound cause passes kind_is not_nine room_is e c t)
+        by (Some g) e t = switched.later_torn (written y) (kind_of y) y z b lies sound cause passes kind_is not_nine room_is g e c t
 
     pub new_sound : IsSound new
     new_sound = sound_laid y o 0 sound (omega arith) may.fits is
@@ -224,7 +244,7 @@ module _ (y : Layout) (z : Slots) (b : List ℕ) (o : Op) (lies : LiesAs (writte
   pub stands : (s : Plain) (l : Layout) (w : Slots) (c : List ℕ) → IsSound l → Left s l w c → StandsFor s c
   stands s l w c is_sound left = record { version = written l; layout = l; slots = w; lies = left.lies; sound = is_sound; plain = sym left.plain }
 
-  or_not_by : (t : Bool) → switches y n ≡ t → (c : List ℕ) → IsTornBy 13 y z body b c n t → StandsForEither p q c
+  or_not_by : (t : Bool) → switches y n ≡ t → (c : List ℕ) → IsTornBy (kind_of y) y z body b c n t → StandsForEither p q c
   or_not_by true is c torn = ⊎_elim
       (λ switch. ⊎_elim (λ old. inl (stands p y old.0 c sound old.1)) (λ done. inl (stands p (new is) (x is) c (new_sound is) (subst (λ l. Left p (new is) (x is) l) (sym done) (switch_done is)))) (switch_torn is c switch))
       (λ record_torn. ⊎_elim (λ without. inl (stands p (new is) (x is) c (new_sound is) without)) (λ there. inr (stands q (kept_in y o) (x is) c (sound_kept y o sound may) there)) (new_torn is c record_torn))
@@ -232,13 +252,13 @@ module _ (y : Layout) (z : Slots) (b : List ℕ) (o : Op) (lies : LiesAs (writte
   or_not_by false goes c torn = ⊎_elim (λ without. inl (stands p y z c sound without)) (λ there. inr (stands q (kept_in y o) z c (sound_kept y o sound may) there)) (here_torn goes c torn)
 
   -- a crash leaves the state as it was, or with the op
-  pub kept_or_not : (c : List ℕ) → IsRowTorn 13 y z body b c → StandsForEither p q c
-  kept_or_not c torn = or_not_by (switches y n) refl c (subst (λ m. IsTornBy 13 y z body b c m (switches y m)) (record_long (Now o)) torn)
+  pub kept_or_not : (c : List ℕ) → IsRowTorn (kind_of y) y z body b c → StandsForEither p q c
+  kept_or_not c torn = or_not_by (switches y n) refl c (subst (λ m. IsTornBy (kind_of y) y z body b c m (switches y m)) (record_long (Now o)) torn)
 
-  made_here : (t : Bool) → switches y n ≡ t → Left q (kept_in y o) (if t then slots_after y z y.later else z) (made_by 13 y z body b n t)
+  made_here : (t : Bool) → switches y n ≡ t → Left q (kept_in y o) (if t then slots_after y z y.later else z) (made_by (kind_of y) y z body b n t)
   made_here true is = new_there is
   made_here false goes = here_there goes
 
   -- all calls made leave it with the op
-  pub kept_made : Left q (kept_in y o) (slots_with y z n) (row_made 13 y z body b)
-  kept_made = subst (λ m. Left q (kept_in y o) (slots_with y z n) (made_by 13 y z body b m (switches y m))) (sym (record_long (Now o))) (made_here (switches y n) refl)
+  pub kept_made : Left q (kept_in y o) (slots_with y z n) (row_made (kind_of y) y z body b)
+  kept_made = subst (λ m. Left q (kept_in y o) (slots_with y z n) (made_by (kind_of y) y z body b m (switches y m))) (sym (record_long (Now o))) (made_here (switches y n) refl)

@@ -12,7 +12,7 @@ use Rattle.ld_op.specs.declared.version.Version.{Version}
 use Rattle.ld_op.specs.Records.{body_length}
 use Rattle.ld_op.specs.Plain.{op_length}
 use Rattle.ld_op.specs.Bytes.{op_bytes, record_bytes}
-use Rattle.ld_layout.specs.Layout.{Layout, Segment, switches, switch_calls, is_full_first, is_full_later, base_length, head_end, switched_to, passes_in, passes_limit, IfSegment}
+use Rattle.ld_layout.specs.Layout.{Layout, Segment, kind_of, switches, switch_calls, is_full_first, is_full_later, base_length, head_end, switched_to, passes_in, passes_limit, IfSegment}
 use Rattle.ld_segment.specs.Left.{IsRecordTorn}
 use Rattle.ld_segment.specs.Slots.{says_bytes, slot_length}
 use Rattle.ld_segment.specs.Lies.{Slots, ArePlacedAt, IsIndexed, LiesAs, IsSound, MayKeep, IfBounded, written, segment_for, base_record, first_slots, switch_row, switched_bytes, with_body, IsAnySwitchTorn, calls_by, row_of, gate_in, IsTornBy, IsRowTorn, made_by, row_made, switching}
@@ -79,8 +79,8 @@ pub switch_is : (kind : ℕ) (y : Layout) (z : Slots) (body : List ℕ) (a : Opt
 switch_is kind y z body a is e =
     ap (planned_by kind y z body (length body)) is ∙ (λ i. record { before = before_by kind y z (segment_for y (length body)) (e i); gate = (segment_for y (length body)).end; body = body })
 
-pub op_count_is : (y : Layout) (z : Slots) (o : Op) → planned_count (planned 13 y z (op_bytes o)) ≡ switching y o + 4
-op_count_is y z o = ap (λ m. planned_count (planned_by 13 y z (op_bytes o) m (switches y m))) (record_long (Now o)) ∙ count_is 13 y z (op_bytes o) (op_length o) (switches y (op_length o))
+pub op_count_is : (y : Layout) (z : Slots) (o : Op) → planned_count (planned (kind_of y) y z (op_bytes o)) ≡ switching y o + 4
+op_count_is y z o = ap (λ m. planned_count (planned_by (kind_of y) y z (op_bytes o) m (switches y m))) (record_long (Now o)) ∙ count_is (kind_of y) y z (op_bytes o) (op_length o) (switches y (op_length o))
 
 -- ---- within all limits ----
 
@@ -142,8 +142,8 @@ op_room y o fits goes e =
     let here : passes_in y o y.later ≡ false = sym (ap (λ t. passes_in y o (cond t (switched_to y (record_length n) (record_length n)) y).later) goes) ∙ fits in
     omega (arith, ltb-false journal_limit (y.end + 1 + record_length n) (sym (ap (passes_in y o) e) ∙ here))
 
-pub op_fits : (y : Layout) (z : Slots) (b : List ℕ) (o : Op) → LiesAs (written y) y z b → IsSound y → MayKeep y o → planned_end (planned 13 y z (op_bytes o)) ≤ journal_limit
-op_fits y z b o lies sound may = plan_fits 13 (written y) y z b (Now o) lies sound (op_room y o may.fits) (λ is. passes_switch y o is may.fits)
+pub op_fits : (y : Layout) (z : Slots) (b : List ℕ) (o : Op) → LiesAs (written y) y z b → IsSound y → MayKeep y o → planned_end (planned (kind_of y) y z (op_bytes o)) ≤ journal_limit
+op_fits y z b o lies sound may = plan_fits (kind_of y) (written y) y z b (Now o) lies sound (op_room y o may.fits) (λ is. passes_switch y o is may.fits)
 
 -- ---- a Base's record ----
 

@@ -1,5 +1,5 @@
 -- A switch before a record: until its last gate is open the layout is as it was, and then it is the new one, with the same plain state.
-use Rattle.std.proofs.Common.{◌≡◌, ◌≢◌, ◌⊎◌, inl, inr, ⊎_elim, ℕ, ◌+◌, ◌-◌, ◌≤◌, ◌<◌, max, nat_le, List, [], ◌∷◌, ◌++◌, length, get_or, Option, None, Some, Bool, true, false, cond, sym, ◌∙◌, ap, subst, arith, append-nil}
+use Rattle.std.proofs.Common.{◌≡◌, ◌≢◌, ◌⊎◌, inl, inr, ⊎_elim, ℕ, ◌+◌, ◌-◌, ◌≤◌, ◌<◌, max, nat_le, List, [], ◌∷◌, ◌++◌, length, get_or, Option, None, Some, Bool, true, false, cond, sym, ◌∙◌, ap, subst, arith, append-nil, ◌==◌}
 use Rattle.std.proofs.lemmas.Bool.{cases_eq}
 use Rattle.std.proofs.lemmas.Bool.Decides.{nat_tests}
 use Rattle.ld_table.specs.Table.{find}
@@ -12,7 +12,7 @@ use Rattle.ld_op.specs.declared.version.Version.{Version}
 use Rattle.ld_op.specs.Plain.{Plain}
 use Rattle.ld_op.specs.Cells.{read_plain}
 use Rattle.ld_layout.specs.Areas.{IsApart, AreLive, least_place}
-use Rattle.ld_layout.specs.Layout.{Layout, Segment, head_end, used, base_length, closed_areas, live_areas, room_for, new_segment, switched_to, switch_number, IsSegment, IfSegment}
+use Rattle.ld_layout.specs.Layout.{Layout, Segment, head_end, used, base_length, closed_areas, live_areas, least_for, room_for, growing, new_segment, switched_to, switch_number, IsSegment, IfSegment}
 use Rattle.ld_layout.proofs.Free.{is_free}
 use Rattle.ld_layout.proofs.Live.{free_of_each, rise_of}
 use Rattle.ld_layout.proofs.Switches.{closed_ordered}
@@ -32,6 +32,10 @@ use Rattle.ld_segment.proofs.Choices as choices
 use Rattle.ld_segment.proofs.Heading as heading
 use Rattle.ld_segment.proofs.Switching as switching
 
+-- the space that a segment is given
+abbrev size_of : Layout → ℕ → ℕ
+size_of y cause = let base : ℕ = base_length y.index (used y.index (closed_areas y y.later)) in base + 6 + room_for (least_for y.grows base) cause
+
 -- the first later segment lies right behind the slots
 place_by : (size end : ℕ) (b : Bool) → b ≡ false → cond b 0 (max 0 (0 + head_end end)) ≡ end + 49
 place_by size end true is = absurd (cc is)
@@ -39,11 +43,11 @@ place_by size end false is = omega arith
 
 pub first_place : (y : Layout) (cause room : ℕ) → y.later ≡ None → (new_segment y cause room).place ≡ y.end + 49
 first_place y cause room e =
-    let size : ℕ = base_length y.index (used y.index (closed_areas y y.later)) + 6 + room_for cause in
+    let size : ℕ = size_of y cause in
     let past : nat_le (0 + size) 0 ≡ false = grind (arith, nat_tests) in
     ap (λ a. least_place size 0 (live_areas y a)) e ∙ place_by size y.end (nat_le (0 + size) 0) past
 
-module _ (version : Version) (kind : ℕ) (y : Layout) (z : Slots) (b : List ℕ) (lies : LiesAs version y z b) (sound : IsSound y) (cause : ℕ) (passes : Passes y (new_segment y cause 0)) (kind_is : after_base kind lies.first ≡ Some version) (older : kind ≡ 9 → HasNoLoss y.index) where
+module _ (version : Version) (kind : ℕ) (y : Layout) (z : Slots) (b : List ℕ) (lies : LiesAs version y z b) (sound : IsSound y) (cause : ℕ) (passes : Passes y (new_segment y cause 0)) (kind_is : after_base kind lies.first ≡ Some version) (older : kind ≡ 9 → HasNoLoss y.index) (room_is : (kind == growing) ≡ y.grows) where
   -- the segment as it is on the disk without the record
   abbrev n : Segment
   n = new_segment y cause 0
@@ -64,7 +68,7 @@ module _ (version : Version) (kind : ℕ) (y : Layout) (z : Slots) (b : List ℕ
   is_base = base_is y cause 0 sound (omega arith) most passes
 
   abbrev size : ℕ
-  size = base_length y.index (used y.index (closed_areas y y.later)) + 6 + room_for cause
+  size = size_of y cause
 
   free : (k v : ℕ) → find k (live_areas y y.later) ≡ Some v → IsApart size n.place (k, v)
   free k v found = free_of_each size n.place k v (live_areas y y.later) (is_free size 0 0 (live_areas y y.later) (rise_of (live_areas y y.later) sound.laid.live.ordered)) found
@@ -134,7 +138,7 @@ module _ (version : Version) (kind : ℕ) (y : Layout) (z : Slots) (b : List ℕ
     pub first_done : LeftAs version p (switched_to y cause 0) (slots_after y z None) (switched_bytes kind y z n None b)
     first_done = new_one None e (slots_after y z None) (heading.done kind y n rs b lies.end_is journal)
         (heading.done_journal kind y n rs b lies.end_is journal)
-        (heading.done_later kind y n rs b lies.end_is journal lies.first version z (first_place y cause 0 e) number kind_is older is_base (new_is y cause) first_areas)
+        (heading.done_later kind y n rs b lies.end_is journal lies.first version z (first_place y cause 0 e) number kind_is older room_is is_base (new_is y cause) first_areas)
         (heading.done_byte kind y n rs b lies.end_is journal)
 
     -- a crash in it
@@ -218,7 +222,7 @@ module _ (version : Version) (kind : ℕ) (y : Layout) (z : Slots) (b : List ℕ
         let counts = choices.new_counts z.this z.other g.number n.number n.place g.place w b later.tells next in
         new_one (Some g) e (slots_after y z (Some g)) (switched w b)
         (switching.front_same lies.first version y z g rs b lies.end_is front later live segment kind n size free_of far fits greater (switched w b) same longer)
-        (switching.new_later lies.first version y z g rs b lies.end_is front later live segment kind n size free_of far fits greater (switched w b) same longer version counts.0 counts.1 kind_is older is_base (new_is y cause) later_areas)
+        (switching.new_later lies.first version y z g rs b lies.end_is front later live segment kind n size free_of far fits greater (switched w b) same longer version counts.0 counts.1 kind_is older room_is is_base (new_is y cause) later_areas)
         (switching.bytes_same lies.first version y z g rs b lies.end_is front later live segment kind n size free_of far fits greater (switched w b) same longer)
 
     named_long : w.slot_at < length (named w b)

@@ -6,7 +6,7 @@ ghost use Rattle.ld_op.specs.declared.op.Op.{Op};
 ghost use Rattle.ld_op.specs.Plain.{Plain as Whole, apply, op_length};
 ghost use Rattle.ld_op.specs.Bytes.{op_bytes};
 ghost use Rattle.ld_op.specs.Cells.{read_plain};
-ghost use Rattle.ld_layout.specs.Layout.{Layout, switches, kept_in};
+ghost use Rattle.ld_layout.specs.Layout.{Layout, switches, kept_in, kind_of};
 ghost use Rattle.ld_segment.specs.Stays.{StaysOutside, IsSameAt, StandsAt};
 ghost use Rattle.ld_segment.specs.Left.{Switching, FirstSwitch, IsRecordTorn, IsSwitchTorn, IsFirstSwitchTorn, staged, switched};
 ghost use Rattle.ld_segment.specs.Slots.{Tells, IsNextSwitch, IsElsewhere, IsSlotAt, IsTold};
@@ -65,10 +65,10 @@ pub fn slots_are_read()
 /// The first op of a group stands behind the gate of the segment, or of a new one, which stays shut: a crash in its calls
 /// leaves what represents the state without it. Each later one goes on the group. What is read has the payloads of all.
 pub fn groups_grow()
-    ensures begins { (y : Layout) (z : Slots) (o : Op) (b : List ℕ) (w : Planned) → w ≡ planned 13 y z (op_bytes o) → LiesAs (written y) y z b → IsSound y → MayKeep y o
+    ensures begins { (y : Layout) (z : Slots) (o : Op) (b : List ℕ) (w : Planned) → w ≡ planned (kind_of y) y z (op_bytes o) → LiesAs (written y) y z b → IsSound y → MayKeep y o
         → IsGroup (read_plain b y.index) (kept_in y o) (slots_with y z (op_length o)) w.gate (made_before w.before b) (staged w.gate w.body (made_before w.before b))
         × (read_plain (staged w.gate w.body (made_before w.before b)) (kept_in y o).index ≡ apply (read_plain b y.index) o) }
-    ensures crash { (y : Layout) (z : Slots) (o : Op) (b c : List ℕ) (w : Planned) → w ≡ planned 13 y z (op_bytes o) → LiesAs (written y) y z b → IsSound y → MayKeep y o → IsStageTorn w b c → StandsFor (read_plain b y.index) c }
+    ensures crash { (y : Layout) (z : Slots) (o : Op) (b c : List ℕ) (w : Planned) → w ≡ planned (kind_of y) y z (op_bytes o) → LiesAs (written y) y z b → IsSound y → MayKeep y o → IsStageTorn w b c → StandsFor (read_plain b y.index) c }
     ensures goes_on { (p : Whole) (y : Layout) (z : Slots) (gate : ℕ) (safe shown : List ℕ) (o : Op) → IsGroup p y z gate safe shown → MayKeep y o → switches y (op_length o) ≡ false
         → IsGroup p (kept_in y o) z gate safe (with_body (gate_in y y.later) (op_bytes o) shown)
         × (read_plain (with_body (gate_in y y.later) (op_bytes o) shown) (kept_in y o).index ≡ apply (read_plain shown y.index) o) }

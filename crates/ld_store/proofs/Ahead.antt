@@ -10,7 +10,7 @@ use Rattle.ld_op.specs.Records.{is_format}
 use Rattle.ld_op.specs.Bounds.{IsOp}
 use Rattle.ld_op.specs.Bytes.{op_bytes}
 use Rattle.ld_op.specs.Cells.{each_plain, read_plain}
-use Rattle.ld_layout.specs.Layout.{Layout, kept_in, passes_limit}
+use Rattle.ld_layout.specs.Layout.{Layout, kept_in, passes_limit, kind_of}
 use Rattle.ld_segment.specs.Stays.{Rests}
 use Rattle.ld_segment.specs.Lies.{Slots, LiesAs, IsSound, StandsFor, StandsForEither, MayKeep, written, slots_with}
 use Rattle.ld_segment.specs.Groups.{IsStaged, IsGroupTorn, opened_at}
@@ -145,13 +145,13 @@ module _ {D : Type 0} {g : Ghosts D} (may_leave : D → List ℕ → Type 0) (ol
   has : Lies y z
   has = some_lie g.seen may_leave (disk_of old) p y z (staged_of old) (to_group g.seen may_leave old p h)
 
-  pub full_then : IsPast 13 (layout_in old.laid i) z body → passes_limit y o ≡ true
-  full_then past = is_full y z o has.bytes has.lies has.sound op kind_is (subst (λ l. IsPast 13 y z l) is (subst (λ k. IsPast 13 (layout_in old.laid k) z body) same past))
+  pub full_then : IsPast (kind_of (layout_in old.laid i)) (layout_in old.laid i) z body → passes_limit y o ≡ true
+  full_then past = is_full y z o has.bytes has.lies has.sound op kind_is (subst (λ l. IsPast (kind_of y) y z l) is (subst (λ k. IsPast (kind_of (layout_in old.laid k)) (layout_in old.laid k) z body) same past))
 
   pub group_in : IsGroupOn g.seen may_leave (disk_of old) (staged_of old) p (layout_in old.laid i) z
   group_in = subst (λ k. IsGroupOn g.seen may_leave (disk_of old) (staged_of old) p (layout_in old.laid k) z) (sym same) (to_group g.seen may_leave old p h)
 
-  pub may_in : (IsPast 13 (layout_in old.laid i) z body → ⊥) → MayKeep (layout_in old.laid i) o
+  pub may_in : (IsPast (kind_of (layout_in old.laid i)) (layout_in old.laid i) z body → ⊥) → MayKeep (layout_in old.laid i) o
   may_in none = subst (λ k. MayKeep (layout_in old.laid k) o) (sym same) (record { op = op; format = kind_is; fits = is_within old.laid z o i (index_of old) body same is none })
 
   pub leaves_in : (moment : D → ℕ) (left_since : D → ℕ → List ℕ → Type 0) (new : D) → LeavesOnly moment left_since (disk_of old) new (StandsForEither p (told_plain (g.seen (disk_of old)) i)) → LeavesOnly moment left_since (disk_of old) new (StandsForEither p (plain_of old))

@@ -16,7 +16,7 @@ use Rattle.ld_op.specs.Cells.{each_plain, read_plain, placed}
 use Rattle.ld_layout.specs.Areas.{AreLive}
 use Rattle.ld_layout.specs.declared.segment.Layout.{Layout as Plan}
 use Rattle.ld_layout.specs.LaidOut.{laid_out, gate_behind, recorded, is_past}
-use Rattle.ld_layout.specs.Layout.{Layout, Segment, live_areas, switches, switched_to, is_first, later_with, with_record, laid_for, kept_in, passes_in, passes_limit, IfSegment}
+use Rattle.ld_layout.specs.Layout.{Layout, Segment, live_areas, switches, switched_to, is_first, later_with, with_record, laid_for, kept_in, passes_in, passes_limit, IfSegment, kind_of}
 use Rattle.ld_layout.proofs.Segments.{recorded_is}
 use Rattle.ld_segment.specs.Stays.{Rests}
 use Rattle.ld_segment.specs.Lies.{Slots, IsIndexed, LiesAs, IsSound, IfBounded, MayKeep, StandsForEither, IsRowTorn, written, segment_for, gate_in, row_made, slots_with}
@@ -54,23 +54,23 @@ module _ (y : Layout) (z : Slots) (o : Op) where
   long : n ≡ length said
   long = sym (record_long (Now o))
 
-  goes_past : passes_limit y o ≡ true → IsPast 13 y z said
+  goes_past : passes_limit y o ≡ true → IsPast (kind_of y) y z said
   unfolding passes_limit
   goes_past past = by (switches y n) refl
     where
-      here : (a : Option Segment) → y.later ≡ a → switches y n ≡ false → passes_in y o a ≡ true → journal_limit < planned_end (planned 13 y z said)
+      here : (a : Option Segment) → y.later ≡ a → switches y n ≡ false → passes_in y o a ≡ true → journal_limit < planned_end (planned (kind_of y) y z said)
       here None first goes passes =
           let far : journal_limit < y.end + 1 + record_length n = grind (arith, nat_tests) in
-          let same : planned 13 y z said ≡ planned_by 13 y z said (length said) false = ap (planned_by 13 y z said (length said)) (ap (switches y) (sym long) ∙ goes) in
+          let same : planned (kind_of y) y z said ≡ planned_by (kind_of y) y z said (length said) false = ap (planned_by (kind_of y) y z said (length said)) (ap (switches y) (sym long) ∙ goes) in
           omega (arith, far, long, ap planned_end same, ap (gate_in y) first)
       here (Some g) first goes passes = absurd (let none : true ≡ false = sym passes ∙ ap (λ t. t && is_past y.index g) goes in cc none)
 
-      by : (t : Bool) → switches y n ≡ t → IsPast 13 y z said
+      by : (t : Bool) → switches y n ≡ t → IsPast (kind_of y) y z said
       by true full = inr (inr (inl (subst IsLong long (full, sym (decided full) ∙ past))))
       by false goes = inr (inr (inr (here y.later refl goes (sym (ap (λ t. passes_in y o (cond t (switched_to y (record_length n) (record_length n)) y).later) goes) ∙ past))))
 
   -- what isn't past the limit passes none
-  pub not_past : (IsPast 13 y z said → ⊥) → passes_limit y o ≡ false
+  pub not_past : (IsPast (kind_of y) y z said → ⊥) → passes_limit y o ≡ false
   not_past none = by (passes_limit y o) refl
     where
       by : (t : Bool) → passes_limit y o ≡ t → passes_limit y o ≡ false
@@ -81,11 +81,11 @@ module _ (y : Layout) (z : Slots) (o : Op) where
     pub may_keep : passes_limit y o ≡ false → MayKeep y o
     may_keep within = record { op = op; format = format; fits = within }
 
-    near : planned_end (planned 13 y z said) ≤ journal_limit → (y.end ≤ journal_limit) × (gate_in y y.later ≤ journal_limit)
+    near : planned_end (planned (kind_of y) y z said) ≤ journal_limit → (y.end ≤ journal_limit) × (gate_in y y.later ≤ journal_limit)
     near end = by y.later refl sound.laid.segment sound.bounded
       where
-        first : (t : Bool) → y.later ≡ None → planned_end (planned_by 13 y z said (length said) t) ≤ journal_limit → y.end ≤ journal_limit
-        first true e end = omega (arith, end, ap (λ a. end_before (before_by 13 y z (segment_for y (length said)) a)) e)
+        first : (t : Bool) → y.later ≡ None → planned_end (planned_by (kind_of y) y z said (length said) t) ≤ journal_limit → y.end ≤ journal_limit
+        first true e end = omega (arith, end, ap (λ a. end_before (before_by (kind_of y) y z (segment_for y (length said)) a)) e)
         first false e end = omega (arith, end, ap (gate_in y) e)
 
         by : (a : Option Segment) → y.later ≡ a → IfSegment a → IfBounded y.end a → (y.end ≤ journal_limit) × (gate_in y y.later ≤ journal_limit)
@@ -94,7 +94,7 @@ module _ (y : Layout) (z : Slots) (o : Op) where
             let far = head_before y g (subst (λ a. AreLive (live_areas y a)) e sound.laid.live) segment in
             (omega (arith, far, segment.begun, segment.within, bounded.limit), omega (arith, ap (gate_in y) e, segment.within, bounded.limit))
 
-    pub is_full : IsPast 13 y z said → passes_limit y o ≡ true
+    pub is_full : IsPast (kind_of y) y z said → passes_limit y o ≡ true
     is_full past = by (passes_limit y o) refl
       where
         none : passes_limit y o ≡ false → ⊥
@@ -143,13 +143,13 @@ pub body_long : (o : Op) (body : List ℕ) → body ≡ op_bytes o → length bo
 body_long o body is = ap (λ (l : List ℕ). length l) is ∙ record_long (Now o)
 
 module _ (laid : Laid) (z : Slots) (o : Op) (i index : Plain) (body : List ℕ) (same : i ≡ index) (is : body ≡ op_bytes o) where
-  pub past_is : IsPast 13 (layout_in laid index) z (op_bytes o) → IsPast 13 (layout_in laid i) z body
-  past_is past = subst (λ l. IsPast 13 (layout_in laid i) z l) (sym is) (subst (λ k. IsPast 13 (layout_in laid k) z (op_bytes o)) (sym same) past)
+  pub past_is : IsPast (kind_of (layout_in laid index)) (layout_in laid index) z (op_bytes o) → IsPast (kind_of (layout_in laid i)) (layout_in laid i) z body
+  past_is past = subst (λ l. IsPast (kind_of (layout_in laid i)) (layout_in laid i) z l) (sym is) (subst (λ k. IsPast (kind_of (layout_in laid k)) (layout_in laid k) z (op_bytes o)) (sym same) past)
 
-  pub is_within : (IsPast 13 (layout_in laid i) z body → ⊥) → passes_limit (layout_in laid index) o ≡ false
+  pub is_within : (IsPast (kind_of (layout_in laid i)) (layout_in laid i) z body → ⊥) → passes_limit (layout_in laid index) o ≡ false
   is_within none = not_past (layout_in laid index) z o (λ past. none (past_is past))
 
-  pub never_past : (IsPast 13 (layout_in laid i) z body → ⊥) → passes_limit (layout_in laid index) o ≡ true → ⊥
+  pub never_past : (IsPast (kind_of (layout_in laid i)) (layout_in laid i) z body → ⊥) → passes_limit (layout_in laid index) o ≡ true → ⊥
   never_past none past = absurd (let e : false ≡ true = sym (is_within none) ∙ past in cc e)
 
 -- ---- the store then ----
@@ -164,25 +164,25 @@ module _ {D : Type 0} {g : Ghosts D} (may_leave : D → List ℕ → Type 0) (ol
   kind_is : is_format o ≡ (y.ops == 0)
   kind_is = format ∙ holds.blank
 
-  may : (IsPast 13 (layout_in old.laid i) z body → ⊥) → MayKeep y o
+  may : (IsPast (kind_of (layout_in old.laid i)) (layout_in old.laid i) z body → ⊥) → MayKeep y o
   may none = may_keep y z o holds.bytes holds.lies holds.sound op kind_is (is_within old.laid z o i (index_of old) body same is none)
 
-  pub full_is : IsPast 13 (layout_in old.laid i) z body → passes_limit y o ≡ true
-  full_is past = is_full y z o holds.bytes holds.lies holds.sound op kind_is (subst (λ l. IsPast 13 y z l) is (subst (λ k. IsPast 13 (layout_in old.laid k) z body) same past))
+  pub full_is : IsPast (kind_of (layout_in old.laid i)) (layout_in old.laid i) z body → passes_limit y o ≡ true
+  full_is past = is_full y z o holds.bytes holds.lies holds.sound op kind_is (subst (λ l. IsPast (kind_of y) y z l) is (subst (λ k. IsPast (kind_of (layout_in old.laid k)) (layout_in old.laid k) z body) same past))
 
-  module _ (none : IsPast 13 (layout_in old.laid i) z body → ⊥) where
-    pub stand_either : (c : List ℕ) → IsRowTorn 13 (layout_in old.laid i) z body holds.bytes c → StandsForEither (plain_of old) (apply (plain_of old) o) c
+  module _ (none : IsPast (kind_of (layout_in old.laid i)) (layout_in old.laid i) z body → ⊥) where
+    pub stand_either : (c : List ℕ) → IsRowTorn (kind_of (layout_in old.laid i)) (layout_in old.laid i) z body holds.bytes c → StandsForEither (plain_of old) (apply (plain_of old) o) c
     stand_either c torn =
-        let row = subst (λ l. IsRowTorn 13 y z l holds.bytes c) is (subst (λ k. IsRowTorn 13 (layout_in old.laid k) z body holds.bytes c) same torn) in
+        let row = subst (λ l. IsRowTorn (kind_of y) y z l holds.bytes c) is (subst (λ k. IsRowTorn (kind_of (layout_in old.laid k)) (layout_in old.laid k) z body holds.bytes c) same torn) in
         subst (λ p. StandsForEither p (apply p o) c) (sym holds.plain) (kept_or_not y z holds.bytes o holds.lies holds.sound (may none) c row)
 
-    module _ (new : Store D g) (laid : layout_of new ≡ kept_in y o) (slots : slots_of new ≡ slots_with y z (op_length o)) (rests : Rests g.seen may_leave (disk_of new) (row_made 13 (layout_in old.laid i) z body holds.bytes))
+    module _ (new : Store D g) (laid : layout_of new ≡ kept_in y o) (slots : slots_of new ≡ slots_with y z (op_length o)) (rests : Rests g.seen may_leave (disk_of new) (row_made (kind_of (layout_in old.laid i)) (layout_in old.laid i) z body holds.bytes))
         (some : is_blank new ≡ false) (works : must_load new ≡ false) (nothing : staged_of new ≡ None) where
       abbrev b : List ℕ
-      b = row_made 13 y z (op_bytes o) holds.bytes
+      b = row_made (kind_of y) y z (op_bytes o) holds.bytes
 
       rests_now : Rests g.seen may_leave (disk_of new) b
-      rests_now = subst (Rests g.seen may_leave (disk_of new)) (λ k. row_made 13 (layout_in old.laid (same k)) z (is k) holds.bytes) rests
+      rests_now = subst (Rests g.seen may_leave (disk_of new)) (λ k. row_made (kind_of (layout_in old.laid (same k))) (layout_in old.laid (same k)) z (is k) holds.bytes) rests
 
       made : LiesAs (written (kept_in y o)) (kept_in y o) (slots_with y z (op_length o)) b × (read_plain b (kept_in y o).index ≡ apply (read_plain holds.bytes y.index) o)
       made = let kept = kept_made y z holds.bytes o holds.lies holds.sound (may none) in (kept.lies, kept.plain)
@@ -210,11 +210,11 @@ module _ {D : Type 0} {g : Ghosts D} (may_leave : D → List ℕ → Type 0) (ol
       }
 
     -- it represents the plain state with the op
-    pub applied_now : (new : Store D g) → Holds g.seen may_leave new → layout_of new ≡ kept_in y o → Rests g.seen may_leave (disk_of new) (row_made 13 (layout_in old.laid i) z body holds.bytes) → plain_of new ≡ apply (plain_of old) o
+    pub applied_now : (new : Store D g) → Holds g.seen may_leave new → layout_of new ≡ kept_in y o → Rests g.seen may_leave (disk_of new) (row_made (kind_of (layout_in old.laid i)) (layout_in old.laid i) z body holds.bytes) → plain_of new ≡ apply (plain_of old) o
     applied_now new held laid rests =
         let kept = kept_made y z holds.bytes o holds.lies holds.sound (may none) in
-        let b = row_made 13 y z (op_bytes o) holds.bytes in
-        let told : g.seen (disk_of new) ≡ Some b = rests.bytes_are ∙ (λ k. Some (row_made 13 (layout_in old.laid (same k)) z (is k) holds.bytes)) in
+        let b = row_made (kind_of y) y z (op_bytes o) holds.bytes in
+        let told : g.seen (disk_of new) ≡ Some b = rests.bytes_are ∙ (λ k. Some (row_made (kind_of (layout_in old.laid (same k))) (layout_in old.laid (same k)) z (is k) holds.bytes)) in
         ap (λ t. told_plain t (index_of new)) told ∙ ap (λ w. read_plain b w.index) laid ∙ kept.plain ∙ ap (λ p. apply p o) (sym holds.plain)
 
 -- ---- a store that stays ----

@@ -1,9 +1,9 @@
 -- The index of a Base that was read is one of a journal.
-use Rattle.std.proofs.Common.{◌==◌, ◌||◌, ap, subst}
+use Rattle.std.proofs.Common.{◌==◌, ap, subst}
 use Rattle.ld_fields.specs.Fields.{field}
 use Rattle.ld_fields.proofs.Unspelling.{field_spells, by_follow, by_check, ended}
 use Rattle.ld_op.specs.Indexed.{read_index, read_table}
-use Rattle.ld_layout.specs.Base.{read_area, judge_base}
+use Rattle.ld_layout.specs.Base.{read_area, judge_base, is_base_kind}
 use Rattle.ld_layout.specs.LaidOut.{base_of}
 use Rattle.ld_segment.specs.Later.{IsJudged}
 use Rattle.ld_segment.specs.declared.later.Later.{Later}
@@ -18,7 +18,7 @@ base_well c j =
     let b = base_of c.based in
     let last = length bs in
     by_follow (field 1 bs 0) _ b last j.is (λ kind at f r.
-    by_check ((kind == 9) || (kind == 13)) 0 _ b last r (λ ok r.
+    by_check (is_base_kind kind) 0 _ b last r (λ ok r.
     by_follow (read_index bs (kind == 9) at) _ b last r (λ index at_areas g r.
     by_follow (read_table bs (read_area bs) at_areas) _ b last r (λ areas next h r.
     subst (λ p. IsWell p) (ap (λ d. d.index) (ended bs next _ b last r).1)

@@ -15,7 +15,7 @@ use Rattle.ld_segment.specs.Slots.{head_bytes}
 use Rattle.ld_segment.specs.Ops.{place_behind}
 use Rattle.ld_segment.specs.declared.later.Later.{Later}
 use Rattle.ld_segment.proofs.Readings.{no_head}
-use Rattle.ld_store.specs.Ops.{AreThere, IsBodyOf, IsBodyOrHead, IsDamagedRow, PassesLimit, HasPayloadPast, IsOffBehind, within}
+use Rattle.ld_store.specs.Ops.{AreThere, IsBodyOf, IsBodyOrHead, IsDamagedRow, PassesLimit, HasPayloadPast, IsOffBehind, within, least_behind}
 use Rattle.ld_store.specs.Replayed.{HasReplayed, Replayed}
 use Rattle.ld_store.specs.Read.{IsOut}
 use Rattle.ld_store.specs.declared.fault.StoreFault.{StoreFault}
@@ -75,7 +75,7 @@ headed_in from opening base bytes w index head place is r =
       cause = inr (record { body = head_bytes head; after = begins.after; rest_is = begins.rest_is; some = begins.some; fits = begins.fits; none = λ may. no_head may.found head (sym may.body_is) });
     }
 
-pub past_in : (c : Later) (bytes : List ℕ) (last : Walk) (index : Plain) → Replayed c.gate c.version c.based.index.state bytes last index None → journal_limit < c.gate + 1 + room_for last.first → PassesLimit c bytes
+pub past_in : (c : Later) (bytes : List ℕ) (last : Walk) (index : Plain) → Replayed c.gate c.version c.based.index.state bytes last index None → journal_limit < c.gate + 1 + room_for (least_behind c) last.first → PassesLimit c bytes
 past_in c bytes last index r past =
     let has = r.has in
     record {
@@ -83,7 +83,7 @@ past_in c bytes last index r past =
       version = last.version;
       journal = row_is (drop c.gate bytes) has.rest has.found c.version last.version has.there.placed has.there.bytes_are r.stops;
       placed = has.there.placed;
-      long = subst (λ n. journal_limit < c.gate + 1 + room_for n) has.first_is past;
+      long = subst (λ n. journal_limit < c.gate + 1 + room_for (least_behind c) n) has.first_is past;
     }
 
 pub payload_in : (c : Later) (bytes : List ℕ) (last : Walk) (index : Plain) → Replayed c.gate c.version c.based.index.state bytes last index None → (each_plain (within (length bytes)) index ≡ index → ⊥) → HasPayloadPast c bytes

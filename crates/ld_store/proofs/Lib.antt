@@ -14,6 +14,7 @@ pub mod Ahead
 pub mod Heads
 pub mod Replaying
 pub mod Damage
+pub mod Turned
 pub mod OneLayout
 pub mod Behind
 pub mod Refused

@@ -25,6 +25,7 @@ use Rattle.ld_store.specs.Read.{IsFirstRead, IsLaterRead, IsRead}
 use Rattle.ld_store.specs.Opened.{IsSettled, IsOpen}
 use Rattle.ld_store.specs.declared.laid.Laid.{Laid}
 use Rattle.ld_store.proofs.OneLayout.{IsSame, one_layout}
+use Rattle.ld_store.proofs.Turned.{lies_turned, sound_turned}
 use Rattle.ld_store.proofs.MarkRoom.{past_passes}
 use Rattle.ld_store.proofs.Blank.{blank_lies, written_is}
 
@@ -55,10 +56,14 @@ module _ (bytes : List ℕ) (l : Laid) (index : Plain) (version : Version) (read
   stands_as p stands =
       let s = one_layout stands.version stands.layout stands.slots bytes l index version stands.lies stands.sound read in
       record {
-        lies = subst (λ w. LiesAs w y z bytes) s.version_is (subst (λ x. LiesAs stands.version x z bytes) s.layout s.lies);
-        sound = subst (λ x. IsSound x) s.layout stands.sound;
+        lies = subst (λ w. LiesAs w y z bytes) s.version_is (subst (λ x. LiesAs stands.version x z bytes) s.layout (lies_turned stands.layout false stands.version z bytes s.lies));
+        sound = subst (λ x. IsSound x) s.layout (sound_turned stands.layout false stands.sound);
         plain = stands.plain ∙ ap (λ x. read_plain bytes x.index) s.layout;
       }
+
+  -- the room of the next segment doesn't grow
+  pub still_read : y.grows ≡ false
+  still_read = ⊎_elim (λ r. ap (λ p. p.grows) r.layout_is) (λ r. ap (λ p. p.grows) r.layout_is) read
 
   -- where there are slots, their gates are as they were read
   open_first : IsFirstRead bytes l index version → IfOpenAs y.later z bytes
@@ -76,14 +81,14 @@ module _ (bytes : List ℕ) (l : Laid) (index : Plain) (version : Version) (read
   pub of_first : is_first version ≡ true → (p : Plain) → StandsFor p bytes → IsOfFirst bytes
   of_first first p stands =
       let s = stands_as p stands in
-      record { layout = y; slots = z; lies = subst (λ w. LiesAs w y z bytes) (first_is version first) s.lies; sound = s.sound; slots_are = open_as }
+      record { layout = y; slots = z; lies = subst (λ w. LiesAs w y z bytes) (first_is version first) s.lies; sound = s.sound; slots_are = open_as; still = still_read }
 
   -- a mark has no room behind it
   pub no_room : is_first version ≡ true → (p : Plain) → StandsFor p bytes → IsPast 9 y z mark → HasNoRoom bytes
   no_room first p stands past =
       let s = stands_as p stands in
       let lies = subst (λ w. LiesAs w y z bytes) (first_is version first) s.lies in
-      record { was = record { layout = y; slots = z; lies = lies; sound = s.sound; slots_are = open_as }; long = past_passes y z bytes lies s.sound past }
+      record { was = record { layout = y; slots = z; lies = lies; sound = s.sound; slots_are = open_as; still = still_read }; long = past_passes y z bytes lies s.sound past }
 
   -- a journal of the first version was read so
   was_same : (was : IsOfFirst bytes) → IsSame First was.layout was.slots l index version bytes
@@ -93,7 +98,7 @@ module _ (bytes : List ℕ) (l : Laid) (index : Plain) (version : Version) (read
   was_first was = sym (ap is_first (was_same was).version_is)
 
   pub was_layout : (was : IsOfFirst bytes) → was.layout ≡ y
-  was_layout was = (was_same was).layout
+  was_layout was = (λ i. record was.layout { grows = was.still i }) ∙ (was_same was).layout
 
   pub was_row : (was : IsOfFirst bytes) → mark_row was.layout was.slots ≡ mark_row y z
   was_row was = (was_same was).row was.slots_are ∙ ap (λ x. mark_row x z) (was_layout was)
@@ -101,8 +106,9 @@ module _ (bytes : List ℕ) (l : Laid) (index : Plain) (version : Version) (read
 pub was_passes : (bytes : List ℕ) (l : Laid) (index : Plain) (version : Version) (read : IsRead bytes l index version) (was : IsOfFirst bytes) → IsPast 9 (layout_in l index) (slots_in l) mark → mark_passes was.layout ≡ true
 was_passes bytes l index version read was past =
     let s = was_same bytes l index version read was in
-    let lies = subst (λ x. LiesAs First x (slots_in l) bytes) s.layout s.lies in
-    ap mark_passes s.layout ∙ past_passes (layout_in l index) (slots_in l) bytes lies (subst (λ x. IsSound x) s.layout was.sound) past
+    let same = was_layout bytes l index version read was in
+    let lies = subst (λ x. LiesAs First x (slots_in l) bytes) same s.lies in
+    ap mark_passes same ∙ past_passes (layout_in l index) (slots_in l) bytes lies (subst (λ x. IsSound x) same was.sound) past
 
 pub some_bytes : (n : ℕ) (bytes : List ℕ) → n ≡ length bytes → 0 < n → 0 < length bytes
 some_bytes n bytes long some = subst (λ k. 0 < k) long some
@@ -167,7 +173,7 @@ module _ {D : Type 0} (seen : D → Option (List ℕ)) (may_leave : D → List �
       holds = λ p stands. (let s = stands_as bytes l index version read p stands in
           let lies = subst (λ w. LiesAs w (layout_in l index) (slots_in l) bytes) (first_is version first) s.lies in
           let fits = has_room (layout_in l index) (slots_in l) room in
-          let made = mark_made (layout_in l index) (slots_in l) bytes lies s.sound fits in
+          let made = mark_made (layout_in l index) (slots_in l) bytes lies s.sound fits (still_read bytes l index version read) in
           let b = row_made 9 (layout_in l index) (slots_in l) mark bytes in
           let there : LiesAs Second (layout_in now index) (slots_in now) b = subst (λ q. LiesAs Second (layout_in now index) q b) (sym slots) (subst (λ x. LiesAs Second x (slots_with (layout_in l index) (slots_in l) 2) b) (sym layout) made.lies) in
           record {
@@ -184,7 +190,7 @@ module _ {D : Type 0} (seen : D → Option (List ℕ)) (may_leave : D → List �
     marked_or_not c first room torn p stands =
         let s = stands_as bytes l index version read p stands in
         let lies = subst (λ w. LiesAs w (layout_in l index) (slots_in l) bytes) (first_is version first) s.lies in
-        let left = mark_torn (layout_in l index) (slots_in l) bytes lies s.sound (has_room (layout_in l index) (slots_in l) room) c torn in
+        let left = mark_torn (layout_in l index) (slots_in l) bytes lies s.sound (has_room (layout_in l index) (slots_in l) room) (still_read bytes l index version read) c torn in
         (of_first bytes l index version read first p stands, subst (λ q. StandsFor q c) (sym s.plain) left)
 
     pub leaves_marked : (old mid new : D) → Unchanged seen may_leave moment left_since old mid → is_first version ≡ true → (IsPast 9 (layout_in l index) (slots_in l) mark → ⊥)

@@ -15,7 +15,7 @@ use Rattle.ld_op.specs.Plain.{Plain, unformatted}
 use Rattle.ld_op.specs.Indexed as based
 use Rattle.ld_layout.specs.Base.{base_bytes}
 use Rattle.ld_layout.specs.LaidOut.{later_of}
-use Rattle.ld_layout.specs.Layout.{Layout, Segment, room_for, entry_count, base_length, switches}
+use Rattle.ld_layout.specs.Layout.{Layout, Segment, least_for, room_for, growing, entry_count, base_length, switches}
 use Rattle.ld_layout.proofs.Lengths.{base_long}
 use Rattle.ld_layout.proofs.Segments.{count_is}
 use Rattle.ld_segment.specs.Found.{slots_of}
@@ -28,7 +28,7 @@ use Rattle.ld_segment.proofs.Bodies.{same_version, records_fit}
 use Rattle.ld_segment.proofs.Readings.{same_records, same_rows}
 use Rattle.ld_segment.proofs.CurrentSlots.{gate_same}
 use Rattle.ld_segment.proofs.ReadLater.{read_as, read_kept}
-use Rattle.ld_store.specs.Ops.{AreThere, IsOpenAs, IfOpenAs}
+use Rattle.ld_store.specs.Ops.{AreThere, IsOpenAs, IfOpenAs, least_behind}
 use Rattle.ld_store.specs.Laid.{layout_in, slots_in}
 use Rattle.ld_store.specs.Replayed.{HasReplayed, Replayed}
 use Rattle.ld_store.specs.Read.{IsFirstRead, IsLaterRead, IsRead, read_segment}
@@ -39,7 +39,7 @@ use Rattle.ld_store.proofs.Damage.{fits_is, headed}
 
 -- it is this layout, with the slots as they were read
 pub record IsSame (v : Version) (y : Layout) (z : Slots) (l : Laid) (index : Plain) (version : Version) (bytes : List ℕ) : Type 0 where
-  pub layout : y ≡ layout_in l index
+  pub layout : record y { grows = false } ≡ layout_in l index
   pub version_is : v ≡ version
   pub lies : LiesAs v y (slots_in l) bytes
   pub row : IfOpenAs y.later z bytes → mark_row y z ≡ mark_row y (slots_in l)
@@ -98,9 +98,10 @@ first_same v y z bytes l index version lies r =
     let ops : y.ops ≡ l.layout.ops = lies.ops_is ∙ ap op_count same.0 ∙ sym has.ops_is ∙ sym (ap (λ p. p.ops) r.layout_is) in
     let end : y.end ≡ l.layout.end = omega (arith, lies.end_is, ap place_behind same.0, has.at_is, ap (λ p. p.end) r.layout_is) in
     let later : y.later ≡ later_of l.layout.later = none ∙ sym (ap (λ p. later_of p.later) r.layout_is) in
+    let still : false ≡ l.layout.grows = sym (ap (λ p. p.grows) r.layout_is) in
     let i : y.index ≡ index = is.1 ∙ ap (λ vs. indexed 0 unformatted vs) same.0 ∙ sym has.index_is in
     record {
-      layout = λ k. record { ops = ops k; end = end k; later = later k; index = i k };
+      layout = λ k. record { ops = ops k; end = end k; later = later k; index = i k; grows = still k };
       version_is = is.0 ∙ first ∙ sym r.version_is;
       lies = record {
         records = lies.records;
@@ -154,8 +155,10 @@ module _ (v : Version) (y : Layout) (z : Slots) (bytes : List ℕ) (g : Segment)
         let entries : g.based ≡ min (based.entry_count c.based.index.state.logs) (2 ^ 64 - 1) = cur.based_is ∙ ap (λ p. entry_count p.logs) (sym as_read.index) ∙ sym based_is in
         let ops : g.ops ≡ last.ops = cur.ops_is ∙ ap op_count rows ∙ sym has.ops_is in
         let end : g.end ≡ last.at = omega (arith, cur.end_is, ap place_behind rows, as_read.gate_is, has.at_is) in
-        let limit : g.limit ≡ c.gate + 1 + room_for last.first = cur.limit_is ∙ (λ i. sym as_read.gate_is i + 1 + room_for ((ap first_length rows ∙ sym has.first_is) i)) in
-        λ i. record { place = sym as_read.place i; based = entries i; ops = ops i; end = end i; limit = limit i; areas = sym as_read.areas i; number = sym as_read.number i }
+        let size : base_length cur.base g.areas ≡ c.gate - (c.found.place + 5) = omega (arith, as_read.gate_is, as_read.place) in
+        let grows : g.grows ≡ (c.based.kind == growing) = cur.grows_is ∙ sym (ap (λ k. k == growing) as_read.kind_is) in
+        let limit : g.limit ≡ c.gate + 1 + room_for (least_behind c) last.first = cur.limit_is ∙ (λ i. sym as_read.gate_is i + 1 + room_for (least_for (grows i) (size i)) ((ap first_length rows ∙ sym has.first_is) i)) in
+        λ i. record { place = sym as_read.place i; based = entries i; ops = ops i; end = end i; limit = limit i; areas = sym as_read.areas i; number = sym as_read.number i; grows = grows i }
 
   slots_same : IsOpenAs z bytes → z ≡ slots_of c.found
   slots_same gates =
@@ -176,9 +179,10 @@ later_same v y z bytes l index version lies sound r =
     let ops : y.ops ≡ l.layout.ops = lies.ops_is ∙ ap op_count h.rows ∙ sym has.ops_is ∙ sym (ap (λ p. p.ops) r.layout_is) in
     let end_is : y.end ≡ l.layout.end = end ∙ sym (ap (λ p. p.end) r.layout_is) in
     let later : y.later ≡ later_of l.layout.later = h.later_is ∙ ap (λ s. Some s) (segment ∙ sym r.segment_is) ∙ sym (ap (λ p. later_of p.later) r.layout_is) in
+    let still : false ≡ l.layout.grows = sym (ap (λ p. p.grows) r.layout_is) in
     let i : y.index ≡ index = index_same v y z bytes g lies.first is fits.0 fits.1.0 r.later there r.last index r.rest in
     record {
-      layout = λ k. record { ops = ops k; end = end_is k; later = later k; index = i k };
+      layout = λ k. record { ops = ops k; end = end_is k; later = later k; index = i k; grows = still k };
       version_is = version_same v y z bytes g lies.first is fits.0 fits.1.0 r.later there r.last index r.rest ∙ sym r.version_is;
       lies = record {
         records = lies.records;

@@ -138,6 +138,7 @@ still_first a b same was = record {
   lies = subst (λ l. LiesAs First was.layout was.slots l) (sym same) was.lies;
   sound = was.sound;
   slots_are = subst (λ l. IfOpenAs was.layout.later was.slots l) (sym same) was.slots_are;
+  still = was.still;
 }
 
 -- one that has bytes isn't refused

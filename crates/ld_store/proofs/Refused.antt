@@ -1,5 +1,5 @@
 -- Bytes in which something is out of place represent no plain state.
-use Rattle.std.proofs.Common.{◌≡◌, inl, inr, ⊎_elim, ◌<◌, ◌≤◌, ◌+◌, ◌^◌, drop, ℕ, List, [], ◌∷◌, length, Option, None, Some, sym, ◌∙◌, ap, subst, arith}
+use Rattle.std.proofs.Common.{◌≡◌, inl, inr, ⊎_elim, ◌<◌, ◌≤◌, ◌+◌, ◌^◌, drop, ℕ, List, [], ◌∷◌, length, Option, None, Some, sym, ◌∙◌, ap, subst, arith, ◌==◌, ◌-◌}
 use Rattle.std.proofs.lemmas.List.{append-nil}
 use Rattle.ld_journal.specs.Format.{IsJournal}
 use Rattle.ld_journal.proofs.Reading.{one_reading}
@@ -11,7 +11,7 @@ use Rattle.ld_op.specs.Plain.{Plain}
 use Rattle.ld_op.specs.Bytes.{record_bytes}
 use Rattle.ld_op.specs.Cells.{each_plain}
 use Rattle.ld_table.specs.Table.{find}
-use Rattle.ld_layout.specs.Layout.{Layout, Segment, IfSegment, room_for, head_end}
+use Rattle.ld_layout.specs.Layout.{Layout, Segment, IfSegment, base_length, room_for, head_end, least_for, growing}
 use Rattle.ld_segment.specs.Slots.{head_bytes}
 use Rattle.ld_segment.specs.Later.{IsThere, IsDamagedBehind, IsReadAs}
 use Rattle.ld_segment.specs.declared.later.Later.{Later}
@@ -19,7 +19,7 @@ use Rattle.ld_segment.specs.Ops.{bodies_of, indexed, ArePlaced}
 use Rattle.ld_segment.specs.Lies.{Slots, LiesAs, IsSound, IsIndexed, IsLater, IfBounded, StandsFor, head_of, first_length}
 use Rattle.ld_segment.proofs.Readings.{no_head, same_records}
 use Rattle.ld_segment.proofs.ReadLater.{not_refused}
-use Rattle.ld_store.specs.Ops.{IsBodyOf, IsBodyOrHead, IsDamagedRow, PassesLimit, HasAreaPast, HasPayloadPast, IsNoBase, IsDamagedIn, IsDamagedLater, within}
+use Rattle.ld_store.specs.Ops.{IsBodyOf, IsBodyOrHead, IsDamagedRow, PassesLimit, HasAreaPast, HasPayloadPast, IsNoBase, IsDamagedIn, IsDamagedLater, within, least_behind}
 use Rattle.ld_store.specs.Read.{IsOut}
 use Rattle.ld_store.proofs.Damage.{row_fine, fits_is, headed}
 use Rattle.ld_store.proofs.Inside.{inside}
@@ -72,7 +72,9 @@ module _ (v : Version) (y : Layout) (z : Slots) (bytes : List ℕ) (lies : LiesA
     not_long passes =
         let rows = same_records is.current.records passes.found placed.are passes.placed.are (one_reading (drop c.gate bytes) (bodies_of is.current.records) (bodies_of passes.found) journal passes.journal) in
         let bounded = subst (λ a. IfBounded y.end a) later_is sound.bounded in
-        let room : room_for (first_length is.current.records) ≡ room_for (first_length passes.found) = ap (λ vs. room_for (first_length vs)) rows in
+        let size : c.gate - (c.found.place + 5) ≡ base_length is.current.base g.areas = omega (arith, read.gate_is, read.place) in
+        let grows : (c.based.kind == growing) ≡ g.grows = ap (λ k. k == growing) read.kind_is ∙ sym is.current.grows_is in
+        let room : room_for (least_for g.grows (base_length is.current.base g.areas)) (first_length is.current.records) ≡ room_for (least_behind c) (first_length passes.found) = λ i. room_for (least_for (sym grows i) (sym size i)) (first_length (rows i)) in
         omega (arith, bounded.limit, is.current.limit_is, read.gate_is, room, passes.long)
 
     not_area : HasAreaPast c bytes → ⊥

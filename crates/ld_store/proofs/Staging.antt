@@ -9,7 +9,7 @@ use Rattle.ld_op.specs.declared.record.Record.TheVariants.{Now}
 use Rattle.ld_op.specs.Plain.{Plain, apply, op_length}
 use Rattle.ld_op.specs.Bytes.{op_bytes}
 use Rattle.ld_op.specs.Cells.{read_plain}
-use Rattle.ld_layout.specs.Layout.{Layout, switches, kept_in}
+use Rattle.ld_layout.specs.Layout.{Layout, switches, kept_in, kind_of}
 use Rattle.ld_segment.specs.Stays.{Rests}
 use Rattle.ld_segment.specs.Left.{staged}
 use Rattle.ld_segment.specs.Lies.{Slots, StandsFor, StandsForEither, MayKeep, written, gate_in, with_body, slots_after, slots_with}
@@ -33,12 +33,12 @@ first_low (Some at) true gate low here = here
 first_low (Some at) false gate low here = low
 
 -- a record that finds room goes behind the last gate
-goes_is : (y : Layout) (z : Slots) (o : Op) → switches y (op_length o) ≡ false → planned 13 y z (op_bytes o) ≡ planned_by 13 y z (op_bytes o) (length (op_bytes o)) false
-goes_is y z o goes = stay_is 13 y z (op_bytes o) (ap (switches y) (record_long (Now o)) ∙ goes)
+goes_is : (y : Layout) (z : Slots) (o : Op) → switches y (op_length o) ≡ false → planned (kind_of y) y z (op_bytes o) ≡ planned_by (kind_of y) y z (op_bytes o) (length (op_bytes o)) false
+goes_is y z o goes = stay_is (kind_of y) y z (op_bytes o) (ap (switches y) (record_long (Now o)) ∙ goes)
 
 -- the plan of an op's body
-pub plan_as : (a : Planned) (y : Layout) (z : Slots) (body : List ℕ) (o : Op) → a ≡ planned 13 y z body → body ≡ op_bytes o → a ≡ planned 13 y z (op_bytes o)
-plan_as a y z body o plan is = plan ∙ ap (planned 13 y z) is
+pub plan_as : (a : Planned) (y : Layout) (z : Slots) (body : List ℕ) (o : Op) → a ≡ planned (kind_of y) y z body → body ≡ op_bytes o → a ≡ planned (kind_of y) y z (op_bytes o)
+plan_as a y z body o plan is = plan ∙ ap (planned (kind_of y) y z) is
 
 pub full_as : (full some : Bool) (y : Layout) (size : ℕ) (o : Op) → full ≡ some → some ≡ switches y size → size ≡ op_length o → full ≡ switches y (op_length o)
 full_as full some y size o is stays long = is ∙ stays ∙ ap (switches y) long
@@ -86,7 +86,7 @@ module _ {D : Type 0} (seen : D → Option (List ℕ)) (may_leave : D → List �
 
   module _ (p : Plain) (y : Layout) (z : Slots) (o : Op) (may : MayKeep y o) where
     abbrev w : Planned
-    w = planned 13 y z (op_bytes o)
+    w = planned (kind_of y) y z (op_bytes o)
 
     -- the first of a group
     pub begun : (old new : D) (safe : IsSafeAs seen may_leave old p y z)

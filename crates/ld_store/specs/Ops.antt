@@ -1,5 +1,5 @@
 -- What the bytes of a node's disk represent, where they are of the first version, and where something in them is out of place.
-use Rattle.std.specs.Prelude.{◌≡◌, ◌⊎◌, ◌<◌, ◌+◌, ◌^◌, ◌==◌, ℕ, List, [], ◌∷◌, ◌++◌, length, drop, Option, Some, None, true, nat_lt, if◌then◌else◌}
+use Rattle.std.specs.Prelude.{◌≡◌, ◌⊎◌, ◌<◌, ◌+◌, ◌-◌, ◌^◌, ◌==◌, ℕ, List, [], ◌∷◌, ◌++◌, length, drop, Option, Some, None, true, false, nat_lt, if◌then◌else◌}
 use Rattle.ld_journal.specs.Format.{framed, records, IsJournal, IsCutShort}
 use Rattle.ld_journal.specs.Rest.{IsShut}
 use Rattle.ld_msg.specs.Register.{journal_limit}
@@ -12,7 +12,7 @@ use Rattle.ld_op.specs.Bounds.{IsRecord}
 use Rattle.ld_op.specs.Bytes.{record_bytes}
 use Rattle.ld_op.specs.Cells.{each_plain}
 use Rattle.ld_table.specs.Table.{find}
-use Rattle.ld_layout.specs.Layout.{Layout, Segment, room_for}
+use Rattle.ld_layout.specs.Layout.{Layout, Segment, least_for, room_for, growing}
 use Rattle.ld_segment.specs.Stays.{StandsAt}
 use Rattle.ld_segment.specs.Slots.{head_bytes, slot_length}
 use Rattle.ld_segment.specs.Ops.{bodies_of, place_behind, indexed, ArePlaced}
@@ -42,6 +42,8 @@ pub record IsOfFirst (bytes : List ℕ) : Type 0 where
   pub lies : LiesAs First layout slots bytes
   pub sound : IsSound layout
   pub slots_are : IfOpenAs layout.later slots bytes
+  -- what a mark begins is a segment of the first version, whose room doesn't grow
+  pub still : layout.grows ≡ false
 
 -- where bytes represent a plain state
 abbrev pub IfStands : (List ℕ → Type 0) → List ℕ → Type 0
@@ -105,13 +107,17 @@ pub record IsDamagedRow (MayStand : Version → List ℕ → Type 0) (from : ℕ
   pub place_is : place ≡ from + place_behind found
   pub cause : IsOff (MayStand version) rest
 
+-- the least space for records behind this Base, by its first byte and the gate behind it
+abbrev pub least_behind : Later → ℕ
+least_behind c = least_for (c.based.kind == growing) (c.gate - (c.found.place + 5))
+
 -- the segment of this Base, with the records behind it, would pass the limit
 pub record PassesLimit (c : Later) (bytes : List ℕ) : Type 0 where
   pub found : List Record
   pub version : Version
   pub journal : IsJournal (bodies_of found) (drop c.gate bytes)
   pub placed : ArePlaced c.version found version
-  pub long : journal_limit < c.gate + 1 + room_for (first_length found)
+  pub long : journal_limit < c.gate + 1 + room_for (least_behind c) (first_length found)
 
 -- an older area of this Base ends past the disk's end
 pub record HasAreaPast (c : Later) (bytes : List ℕ) : Type 0 where

@@ -1,5 +1,5 @@
 -- What was read of a disk.
-use Rattle.std.specs.Prelude.{◌≡◌, ◌⊎◌, ◌≤◌, ◌+◌, ◌-◌, ◌^◌, ℕ, List, length, min, Some, None}
+use Rattle.std.specs.Prelude.{◌≡◌, ◌⊎◌, ◌≤◌, ◌+◌, ◌-◌, ◌^◌, ℕ, List, length, min, Some, None, false, ◌==◌}
 use Rattle.ld_journal.specs.Rest.{IsShut}
 use Rattle.ld_op.specs.declared.version.Version.{Version}
 use Rattle.ld_op.specs.declared.version.Version.TheVariants.{Blank}
@@ -9,11 +9,11 @@ use Rattle.ld_table.specs.Table.{find}
 use Rattle.ld_layout.specs.declared.segment.Segment.{Segment as Stretch}
 use Rattle.ld_layout.specs.LaidOut.{segment_of}
 use Rattle.ld_op.specs.Indexed.{entry_count}
-use Rattle.ld_layout.specs.Layout.{Segment, room_for}
+use Rattle.ld_layout.specs.Layout.{Segment, room_for, growing}
 use Rattle.ld_segment.specs.Found.{slots_of}
 use Rattle.ld_segment.specs.Later.{IsThere}
 use Rattle.ld_segment.specs.declared.later.Later.{Later}
-use Rattle.ld_store.specs.Ops.{IsBodyOrHead, IsDamagedRow, IsDamagedLater, within}
+use Rattle.ld_store.specs.Ops.{IsBodyOrHead, IsDamagedRow, IsDamagedLater, within, least_behind}
 use Rattle.ld_store.specs.Laid.{slots_in}
 use Rattle.ld_store.specs.Replayed.{Replayed}
 use Rattle.ld_store.specs.declared.laid.Laid.{Laid}
@@ -26,16 +26,17 @@ read_segment c w = record {
   based = min (entry_count c.based.index.state.logs) (2 ^ 64 - 1);
   ops = w.ops;
   end = w.at;
-  limit = c.gate + 1 + room_for w.first;
+  limit = c.gate + 1 + room_for (least_behind c) w.first;
   areas = c.based.areas;
   number = c.found.number;
+  grows = c.based.kind == growing;
 }
 
 -- these bytes are a journal of one segment
 pub record IsFirstRead (bytes : List ℕ) (l : Laid) (index : Plain) (version : Version) : Type 0 where
   pub walk : Walk
   pub all : Replayed 0 Blank unformatted bytes walk index None
-  pub layout_is : l.layout ≡ record { ops = walk.ops; end = walk.at; later = None }
+  pub layout_is : l.layout ≡ record { ops = walk.ops; end = walk.at; later = None; grows = false }
   pub version_is : version ≡ walk.version
 
 -- the first segment's records end at the head, and behind the Base that its slots name stand those of another one
@@ -54,7 +55,7 @@ pub record IsLaterRead (bytes : List ℕ) (l : Laid) (index : Plain) (version : 
   pub inside : each_plain (within (length bytes)) index ≡ index
   pub segment : Stretch
   pub segment_is : segment_of segment ≡ read_segment later last
-  pub layout_is : l.layout ≡ record { ops = walk.ops; end = walk.at; later = Some segment }
+  pub layout_is : l.layout ≡ record { ops = walk.ops; end = walk.at; later = Some segment; grows = false }
   pub slots_are : slots_in l ≡ slots_of later.found
   pub version_is : version ≡ last.version
 

@@ -8,7 +8,7 @@ ghost use Rattle.ld_op.specs.declared.op.Op.{Op as Kind};
 ghost use Rattle.ld_op.specs.Plain.{Plain as State, op_length};
 ghost use Rattle.ld_op.specs.Bytes.{op_bytes};
 ghost use Rattle.ld_layout.specs.LaidOut.{gate_behind, recorded};
-ghost use Rattle.ld_layout.specs.Layout.{Layout, switches};
+ghost use Rattle.ld_layout.specs.Layout.{Layout, switches, kind_of};
 ghost use Rattle.ld_segment.specs.Lies.{Slots, StandsForEither, MayKeep, slots_with};
 ghost use Rattle.ld_segment.specs.Plans.{IsReady, seen_plan, planned, planned_count, planned_end};
 ghost use Rattle.ld_store.specs.Laid.{layout_in, slots_in, placed_in, IsPast};
@@ -18,7 +18,7 @@ ghost use Rattle.ld_store.specs.declared.laid.Laid.{Laid as Lying};
 
 use crate::StoreFault;
 use crate::laid::Laid;
-use crate::write::{BASE, prepare};
+use crate::write::prepare_op;
 use ld_disk::Disk;
 use ld_io::Failed;
 use ld_op::Plain;
@@ -60,9 +60,9 @@ fn write_staged<D: Disk>(
     requires place { planned_end (seen_plan plan.now) ≤ D.reach disk.old }
     requires bound { planned_end (seen_plan plan.now) ≤ 2 ^ 40 }
     requires gate { IfSome staged (λ gate. gate + 1 ≤ D.reach disk.old) }
-    ensures staged { (p : State) (y : Layout) (z : Slots) (o : Kind) → IsGroupOn D.seen D.may_leave disk.old staged p y z → MayKeep y o → seen_plan plan.now ≡ planned 13 y z (op_bytes o) → is_full ≡ switches y (op_length o)
+    ensures staged { (p : State) (y : Layout) (z : Slots) (o : Kind) → IsGroupOn D.seen D.may_leave disk.old staged p y z → MayKeep y o → seen_plan plan.now ≡ planned (kind_of y) y z (op_bytes o) → is_full ≡ switches y (op_length o)
         → OnOk result (IsGroupWith D.seen D.may_leave disk.old disk.new (first_in staged is_full (seen_plan plan.now).gate) p y z o) }
-    ensures any_moment { (p : State) (y : Layout) (z : Slots) (o : Kind) → IsGroupOn D.seen D.may_leave disk.old staged p y z → MayKeep y o → seen_plan plan.now ≡ planned 13 y z (op_bytes o) → is_full ≡ switches y (op_length o)
+    ensures any_moment { (p : State) (y : Layout) (z : Slots) (o : Kind) → IsGroupOn D.seen D.may_leave disk.old staged p y z → MayKeep y o → seen_plan plan.now ≡ planned (kind_of y) y z (op_bytes o) → is_full ≡ switches y (op_length o)
         → LeavesOnly D.moment D.left_since disk.old disk.new (StandsForEither p (told_plain (D.seen disk.old) y.index)) }
     ensures honest { IsHonest (D.seen disk.old) → IsHonest (D.seen disk.new) }
     ensures itself { D.identity disk.new ≡ D.identity disk.old }
@@ -107,8 +107,8 @@ pub(crate) fn stage_record<D: Disk>(
     ensures any_moment { (p : State) (o : Kind) → body.items ≡ op_bytes o → MayKeep (layout_in laid.old index.now.state) o → IsGroupOn D.seen D.may_leave disk.old staged p (layout_in laid.old index.now.state) (slots_in laid.old)
         → LeavesOnly D.moment D.left_since disk.old disk.new (StandsForEither p (told_plain (D.seen disk.old) index.now.state)) ⊎ Unchanged D.seen D.may_leave D.moment D.left_since disk.old disk.new }
     ensures honest { IsHonest (D.seen disk.old) → IsHonest (D.seen disk.new) }
-    ensures full { IsErrOf result StoreFault.Full → IsPast 13 (layout_in laid.old index.now.state) (slots_in laid.old) body.items }
-    ensures within { is_ok result ≡ true ⊎ IsErrOf result StoreFault.Disk → IsPast 13 (layout_in laid.old index.now.state) (slots_in laid.old) body.items → ⊥ }
+    ensures full { IsErrOf result StoreFault.Full → IsPast (kind_of (layout_in laid.old index.now.state)) (layout_in laid.old index.now.state) (slots_in laid.old) body.items }
+    ensures within { is_ok result ≡ true ⊎ IsErrOf result StoreFault.Disk → IsPast (kind_of (layout_in laid.old index.now.state)) (layout_in laid.old index.now.state) (slots_in laid.old) body.items → ⊥ }
     ensures refused { OnErr result (laid.new ≡ laid.old) }
     ensures itself { D.identity disk.new ≡ D.identity disk.old }
     ensures counts { D.faults disk.old ≤ D.faults disk.new }
@@ -119,7 +119,7 @@ pub(crate) fn stage_record<D: Disk>(
     ensures needs_load { result ≢ Err StoreFault.NeedsLoad }
 {
     let size = body.len() as u64;
-    let (plan, next) = prepare(alloc, laid, index, BASE, body)?;
+    let (plan, next) = prepare_op(alloc, laid, index, body)?;
     let is_full = next.is_some();
     disk.reserve(plan.end().max(behind(staged)), plan.calls())?;
     write_staged(disk, &plan, is_full, staged)?;

@@ -27,6 +27,7 @@ impl Laid {
                 ops: 0,
                 end: 0,
                 later: None,
+                grows: false,
             },
             this: 0,
             other: 0,
@@ -106,13 +107,19 @@ fn with_segment(layout: Layout, this: u64, other: u64, next: Segment) -> Laid
     ensures layout { result.layout ≡ record layout { later = Some next } }
     ensures slots { (index : State) (z : Slots) → z.this ≡ this → z.other ≡ other → slots_in result ≡ slots_after (laid_out layout index) z (later_of layout.later) }
 {
-    let Layout { ops, end, later } = layout;
+    let Layout {
+        ops,
+        end,
+        later,
+        grows,
+    } = layout;
     match later {
         Some(_) => Laid {
             layout: Layout {
                 ops,
                 end,
                 later: Some(next),
+                grows,
             },
             this: other,
             other: this,
@@ -123,6 +130,7 @@ fn with_segment(layout: Layout, this: u64, other: u64, next: Segment) -> Laid
                 ops,
                 end,
                 later: Some(next),
+                grows,
             },
             this: end + 15,
             other: end + 32,

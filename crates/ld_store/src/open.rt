@@ -1,5 +1,5 @@
 // How a disk is opened: it is read, and a journal of the first version marked.
-ghost use Rattle.std.specs.Prelude.{◌≡◌, ◌≢◌, ◌⊎◌, ◌≤◌, ◌<◌, List, ℕ, length, IfOk, OnOk, OnErr, IsErrOf, Err, Some, is_ok, true};
+ghost use Rattle.std.specs.Prelude.{◌≡◌, ◌≢◌, ◌⊎◌, ◌≤◌, ◌<◌, List, ℕ, length, IfOk, OnOk, OnErr, IsErrOf, Err, Some, is_ok, true, false};
 ghost use Rattle.ld_io.specs.Causes.{Rose};
 ghost use Rattle.ld_disk.specs.Moments.{LeavesOnly, Unchanged};
 ghost use Rattle.ld_disk.specs.Plain.{Plain as DiskPlain, reads_fine, after_calls, all_succeed};
@@ -77,6 +77,7 @@ pub(crate) fn open<D: Disk>(alloc: Global, disk: &mut D, len: u64) -> Result<Ope
     ensures opened { IfOk result (λ o. (bytes : List ℕ) → IsSettled D.seen D.may_leave disk.old len bytes → IsOpen D.seen D.may_leave disk.new o.laid o.index.state o.blank bytes) }
     ensures blank { IfOk result (λ o. (bytes : List ℕ) → IsSettled D.seen D.may_leave disk.old len bytes → IsBlank o.blank bytes) }
     ensures well { IfOk result (λ o. IsWell o.index.state) }
+    ensures still { IfOk result (λ o. o.laid.layout.grows ≡ false) }
     ensures damaged { (place : ℕ) → IsErrOf result (StoreFault.Damaged place) → (bytes : List ℕ) → IsSettled D.seen D.may_leave disk.old len bytes → IsOut place bytes }
     ensures any_moment { (bytes : List ℕ) → IsSettled D.seen D.may_leave disk.old len bytes → LeavesOnly D.moment D.left_since disk.old disk.new (IsMarkedOrNot bytes) ⊎ Unchanged D.seen D.may_leave D.moment D.left_since disk.old disk.new }
     ensures reads { OnErr result (IsErrOf result StoreFault.Disk ⊎ Unchanged D.seen D.may_leave D.moment D.left_since disk.old disk.new) }

@@ -1,5 +1,5 @@
 // How a disk is read: the first segment, and the later one that its head names.
-ghost use Rattle.std.specs.Prelude.{◌≡◌, ◌≢◌, ◌⊎◌, ◌≤◌, ◌<◌, ◌+◌, ◌^◌, ◌++◌, List, ℕ, length, IfOk, IfSome, IfNone, OnOk, OnErr, IsErrOf, Err, Some, None, true, false};
+ghost use Rattle.std.specs.Prelude.{◌≡◌, ◌≢◌, ◌⊎◌, ◌≤◌, ◌<◌, ◌+◌, ◌-◌, ◌^◌, ◌++◌, List, ℕ, length, IfOk, IfSome, IfNone, OnOk, OnErr, IsErrOf, Err, Some, None, true, false};
 ghost use Rattle.ld_io.specs.Causes.{Rose};
 ghost use Rattle.ld_disk.specs.Moments.{Unchanged};
 ghost use Rattle.ld_disk.specs.Plain.{Plain as DiskPlain, reads_fine};
@@ -9,7 +9,7 @@ ghost use Rattle.ld_op.specs.declared.version.Version.TheVariants.{Blank};
 ghost use Rattle.ld_op.specs.Cells.{each_plain};
 ghost use Rattle.ld_op.specs.Plain.{Plain as State, unformatted};
 ghost use Rattle.ld_layout.specs.LaidOut.{segment_of};
-ghost use Rattle.ld_layout.specs.Layout.{room_for};
+ghost use Rattle.ld_layout.specs.Layout.{least_for, room_for};
 ghost use Rattle.ld_store.specs.Well.{IsWell};
 ghost use Rattle.ld_store.specs.Replayed.{Replayed};
 ghost use Rattle.ld_store.specs.Read.{IsLaterRead, IsRead, IsOut};
@@ -58,6 +58,16 @@ fn end_of_head<D: Disk>(alloc: Global, disk: &mut D, at: u64, len: u64) -> Resul
     }
 }
 
+/// The least space for records behind the Base at this offset that ends at a gate.
+fn least_behind(grows: bool, place: u64, gate: u64) -> u64
+    ensures { result ≡ least_for grows (gate - (place + 5)) }
+{
+    if grows {
+        return gate.saturating_sub(place).saturating_sub(5).max(LEAST_ROOM);
+    }
+    LEAST_ROOM
+}
+
 /// The segment of a Base at this offset, which ends at a gate, with the records behind it; none where it would pass the
 /// limit.
 fn segment_behind(
@@ -66,12 +76,13 @@ fn segment_behind(
     based: u64,
     areas: Areas,
     number: u64,
+    grows: bool,
     last: Walk,
 ) -> Option<Segment>
-    ensures some { IfSome result (λ g. segment_of g ≡ record { place = place; based = based; ops = last.ops; end = last.at; limit = gate + 1 + room_for last.first; areas = areas; number = number }) }
-    ensures none { IfNone result (journal_limit < gate + 1 + room_for last.first) }
+    ensures some { IfSome result (λ g. segment_of g ≡ record { place = place; based = based; ops = last.ops; end = last.at; limit = gate + 1 + room_for (least_for grows (gate - (place + 5))) last.first; areas = areas; number = number; grows = grows }) }
+    ensures none { IfNone result (journal_limit < gate + 1 + room_for (least_for grows (gate - (place + 5))) last.first) }
 {
-    let room = last.first.max(LEAST_ROOM);
+    let room = last.first.max(least_behind(grows, place, gate));
     let limit = gate.saturating_add(1).saturating_add(room);
     if LIMIT < limit {
         return None;
@@ -84,6 +95,7 @@ fn segment_behind(
         limit,
         areas,
         number,
+        grows,
     })
 }
 
@@ -102,6 +114,7 @@ fn read_behind<D: Disk>(
     ensures damaged { (place : ℕ) → IsErrOf result (StoreFault.Damaged place) → (closed : State) (bytes : List ℕ) → D.seen disk.old ≡ Some bytes → len ≡ length bytes
         → Replayed 0 Blank unformatted bytes walk closed (Some head) → IsOut place bytes }
     ensures well { IfOk result (λ j. IsWell j.index.state) }
+    ensures still { IfOk result (λ j. j.laid.layout.grows ≡ false) }
     ensures exact { (p : DiskPlain) → D.plain disk.old ≡ Some p → reads_fine p ≡ true
         → (D.plain disk.new ≡ Some p) × (result ≢ Err StoreFault.Disk) }
     ensures same { Unchanged D.seen D.may_leave D.moment D.left_since disk.old disk.new }
@@ -144,6 +157,7 @@ fn read_rest<D: Disk>(
     ensures damaged { (place : ℕ) → IsErrOf result (StoreFault.Damaged place) → (bytes : List ℕ) → D.seen disk.old ≡ Some bytes → len ≡ length bytes
         → IsThere walk.version head later bytes → IsDamagedIn walk.version head place bytes }
     ensures well { IfOk result (λ j. IsWell j.index.state) }
+    ensures still { IfOk result (λ j. j.laid.layout.grows ≡ false) }
     ensures exact { (p : DiskPlain) → D.plain disk.old ≡ Some p → reads_fine p ≡ true
         → (D.plain disk.new ≡ Some p) × (result ≢ Err StoreFault.Disk) }
     ensures same { Unchanged D.seen D.may_leave D.moment D.left_since disk.old disk.new }
@@ -160,11 +174,7 @@ fn read_rest<D: Disk>(
         version,
         gate,
     } = later;
-    let Based {
-        kind: _,
-        index,
-        areas,
-    } = based;
+    let Based { kind, index, areas } = based;
     if !areas.lie_within(len) {
         return Err(StoreFault::Damaged(found.place));
     }
@@ -177,7 +187,15 @@ fn read_rest<D: Disk>(
     if !stands_within(&index, len) {
         return Err(StoreFault::Damaged(found.place));
     }
-    match segment_behind(found.place, gate, based, areas, found.number, last) {
+    match segment_behind(
+        found.place,
+        gate,
+        based,
+        areas,
+        found.number,
+        kind == 14,
+        last,
+    ) {
         Some(segment) => Ok(Journal {
             laid: laid_behind(walk, segment, found),
             index,
@@ -189,7 +207,7 @@ fn read_rest<D: Disk>(
 
 /// The first segment's records, the current segment behind them, and the slots that name it.
 fn laid_behind(walk: Walk, segment: Segment, found: Found) -> Laid
-    ensures layout { result.layout ≡ record { ops = walk.ops; end = walk.at; later = Some segment } }
+    ensures layout { result.layout ≡ record { ops = walk.ops; end = walk.at; later = Some segment; grows = false } }
     ensures slots { slots_in result ≡ slots_of found }
 {
     Laid {
@@ -197,6 +215,7 @@ fn laid_behind(walk: Walk, segment: Segment, found: Found) -> Laid
             ops: walk.ops,
             end: walk.at,
             later: Some(segment),
+            grows: false,
         },
         this: found.this,
         other: found.other,
@@ -206,13 +225,14 @@ fn laid_behind(walk: Walk, segment: Segment, found: Found) -> Laid
 
 /// The first segment's records alone; there are no slots.
 fn laid_alone(walk: Walk) -> Laid
-    ensures { result.layout ≡ record { ops = walk.ops; end = walk.at; later = None } }
+    ensures { result.layout ≡ record { ops = walk.ops; end = walk.at; later = None; grows = false } }
 {
     Laid {
         layout: Layout {
             ops: walk.ops,
             end: walk.at,
             later: None,
+            grows: false,
         },
         this: 0,
         other: 0,
@@ -225,6 +245,7 @@ pub(crate) fn read<D: Disk>(alloc: Global, disk: &mut D, len: u64) -> Result<Jou
     ensures read { IfOk result (λ j. (bytes : List ℕ) → D.seen disk.old ≡ Some bytes → len ≡ length bytes → 0 < length bytes → IsRead bytes j.laid j.index.state j.version) }
     ensures damaged { (place : ℕ) → IsErrOf result (StoreFault.Damaged place) → (bytes : List ℕ) → D.seen disk.old ≡ Some bytes → len ≡ length bytes → 0 < length bytes → IsOut place bytes }
     ensures well { IfOk result (λ j. IsWell j.index.state) }
+    ensures still { IfOk result (λ j. j.laid.layout.grows ≡ false) }
     ensures exact { (p : DiskPlain) → D.plain disk.old ≡ Some p → reads_fine p ≡ true
         → (D.plain disk.new ≡ Some p) × (result ≢ Err StoreFault.Disk) }
     ensures same { Unchanged D.seen D.may_leave D.moment D.left_since disk.old disk.new }

@@ -8,7 +8,7 @@ use crate::group::stage_record;
 use crate::laid::Laid;
 use crate::open::{Opened, open};
 use crate::payloads::{read_body, read_payload};
-use crate::write::{BASE, write_record};
+use crate::write::keep_op;
 use ld_disk::{Disk, Fault};
 use ld_ids::Payload;
 use ld_journal::settle;
@@ -50,7 +50,7 @@ impl<D: Disk> Store<D> {
     ghost use Rattle.ld_store.specs.Ops.{is_format, StandsFor, StandsForEither, IfStands, IsOfFirst, HasNoRoom, IsDamaged};
     ghost use Rattle.ld_store.specs.Loads.{LeftOrMarked, Loads};
     ghost use Rattle.ld_op.specs.Cells.{each_msg, byte_at};
-    ghost use Rattle.ld_store.specs.Open.{disk_of, must_load, is_blank, index_of, layout_of, slots_of, plain_of, within, Holds, IsOpened};
+    ghost use Rattle.ld_store.specs.Open.{disk_of, must_load, is_blank, index_of, layout_of, slots_of, plain_of, staged_of, within, Holds, IsOpened};
     ghost use Rattle.ld_store.specs.Ahead.{HoldsOr};
 
     /// Opens the store on a disk, in one writing call: its records are replayed in one walk, or those behind the Base of
@@ -70,6 +70,7 @@ impl<D: Disk> Store<D> {
     pub fn load(alloc: Global, disk: D) -> Result<Store<D>, (D, StoreFault)>
         ensures opens { IfOk result (λ store. IfSome (D.seen disk) (IsOpened D.seen D.may_leave store)) }
         ensures works { IfOk result (λ store. must_load store ≡ false) }
+        ensures still { IfOk result (λ store. (layout_of store).grows ≡ false) }
         ensures itself { MatchResult result (λ store. D.identity (disk_of store) ≡ D.identity disk) (λ e. D.identity e.0 ≡ D.identity disk) }
         ensures counts { MatchResult result (λ store. D.faults disk ≤ D.faults (disk_of store)) (λ e. D.faults disk ≤ D.faults e.0) }
         ensures steady { MatchResult result (λ store. D.faults (disk_of store) ≡ D.faults disk) (λ e. (e.1 ≡ StoreFault.Disk) ⊎ (D.faults e.0 ≡ D.faults disk)) }
@@ -136,6 +137,17 @@ impl<D: Disk> Store<D> {
         ensures { result ≡ must_load self.now }
     {
         self.failed
+    }
+
+    /// Lets the room of each segment that is begun from now on grow with its Base, or not. No byte of the disk tells it: a
+    /// store that was loaded lets none grow.
+    pub fn grow(&mut self, grows: bool)
+        ensures layout { layout_of self.new ≡ record (layout_of self.old) { grows = grows } }
+        ensures rest { (slots_of self.new ≡ slots_of self.old) × (index_of self.new ≡ index_of self.old) × (disk_of self.new ≡ disk_of self.old) × (is_blank self.new ≡ is_blank self.old) × (must_load self.new ≡ must_load self.old) × (staged_of self.new ≡ staged_of self.old) }
+        ensures holds { Holds D.seen D.may_leave self.old → Holds D.seen D.may_leave self.new }
+        ensures opened { (bytes : List ℕ) → IsOpened D.seen D.may_leave self.old bytes → IsOpened D.seen D.may_leave self.new bytes }
+    {
+        self.laid.layout.grows = grows;
     }
 
     /// The index: the plain state with the places of its payloads. Its numbers are what a journal's body can carry; its
@@ -224,15 +236,7 @@ impl<D: Disk> Store<D> {
         self.index.room(alloc, &op)?;
         let mut body = Vec::new(alloc);
         op.encode(alloc, &mut body)?;
-        match write_record(
-            alloc,
-            &mut self.disk,
-            &mut self.laid,
-            &self.index,
-            BASE,
-            body,
-            true,
-        ) {
+        match keep_op(alloc, &mut self.disk, &mut self.laid, &self.index, body) {
             Ok(gate) => {
                 self.index.apply(op, gate + 5);
                 self.blank = false;

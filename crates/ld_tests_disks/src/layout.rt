@@ -62,6 +62,7 @@ fn second(alloc: Global, cause: u32) -> [u64; 4] {
         ops: 64,
         end: 1000,
         later: None,
+        grows: false,
     };
     told(layout.new_segment(alloc, &Plain::new(alloc), u64::from(cause)))
 }
@@ -80,15 +81,22 @@ fn behind(alloc: Global, place: u32, limit: u64) -> [u64; 4] {
             limit,
             areas: Areas::new(alloc),
             number: 7,
+            grows: false,
         }),
+        grows: false,
     };
     told(layout.new_segment(alloc, &Plain::new(alloc), 100))
 }
 
-// What is told of a segment whose Base is read; the limit is 2^40.
+// What is told of a segment whose Base is read, of 11 bytes; the limit is 2^40.
 fn read_at(alloc: Global, place: u64, first: u32) -> [u64; 4] {
+    read_behind(alloc, place, 11, false, first)
+}
+
+// The same of a Base of so many bytes, whose segment's room grows with it or doesn't.
+fn read_behind(alloc: Global, place: u64, base: u32, grows: bool, first: u32) -> [u64; 4] {
     let areas = Areas::new(alloc);
-    told(Ok(Segment::behind_base(place, 11, 0, areas, 1, u64::from(first))))
+    told(Ok(Segment::behind_base(place, u64::from(base), 0, areas, 1, grows, u64::from(first))))
 }
 
 // In how many areas of a Base its payloads stand, and 9 where there is no such Base.
@@ -108,6 +116,7 @@ fn passes(alloc: Global, body: u32) -> Result<bool, NoMemory> {
         ops: 1,
         end: (1 << 40) - 20,
         later: None,
+        grows: false,
     };
     layout.passes_limit(alloc, &Plain::new(alloc), u64::from(body))
 }
@@ -170,6 +179,25 @@ fn a_read_segment_has_room_for_its_first_record(rt: HostRuntime) -> Result<(), F
 }
 
 #[test]
+fn a_growing_segment_has_room_for_as_much_as_its_base(rt: HostRuntime) -> Result<(), Fail> {
+    let rows = [
+        // It doesn't grow.
+        (200_000, false, 100, 332_127),
+        (200_000, true, 100, 401_055),
+        // Its first record is longer than the Base.
+        (200_000, true, 300_000, 501_055),
+        // The least room is more.
+        (11, true, 100, 132_138),
+        (131_073, true, 100, 263_201),
+    ];
+    for (base, grows, first, limit) in rows {
+        let [_, _, found, _] = read_behind(rt.alloc(), 1_049, base, grows, first);
+        assert_eq!(rt; found, limit);
+    }
+    Ok(())
+}
+
+#[test]
 fn areas_without_payloads_are_free(rt: HostRuntime) -> Result<(), Fail> {
     assert_eq!(rt; count_used(rt.alloc(), BASE), 1);
     Ok(())
@@ -186,6 +214,12 @@ fn no_record_passes_the_limit(rt: HostRuntime) -> Result<(), Fail> {
 #[test]
 fn a_base_is_written_as_it_is_read(rt: HostRuntime) -> Result<(), Fail> {
     assert!(rt; is_same_again(rt.alloc(), BASE));
+    // The Base of a segment that grows.
+    let mut growing = Vec::from_slice(rt.alloc(), BASE)?;
+    if let Some(kind) = growing.first_mut() {
+        *kind = 14;
+    }
+    assert!(rt; is_same_again(rt.alloc(), &growing));
     Ok(())
 }
 
@@ -195,6 +229,7 @@ fn other_bytes_are_no_base(rt: HostRuntime) -> Result<(), Fail> {
     let off = [
         // A body of another kind.
         is_off_at(alloc, 0, &[12]),
+        is_off_at(alloc, 0, &[15]),
         // No body.
         is_off_at(alloc, 0, &[]),
         // The generation is cut off.
@@ -213,6 +248,6 @@ fn other_bytes_are_no_base(rt: HostRuntime) -> Result<(), Fail> {
             ],
         ),
     ];
-    assert_eq!(rt; off, [true; 6]);
+    assert_eq!(rt; off, [true; 7]);
     Ok(())
 }

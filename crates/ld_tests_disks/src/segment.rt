@@ -68,6 +68,7 @@ fn switched(alloc: Global, kind: u8) -> Result<MemDisk, JournalFault> {
         ops: 64,
         end: 0,
         later: None,
+        grows: false,
     };
     write(alloc, &mut disk, &layout, 0, false, kind)?;
     Ok(disk)
@@ -86,7 +87,9 @@ fn switch_again(alloc: Global, disk: &mut MemDisk) -> Result<(), JournalFault> {
             limit: 131_138,
             areas: Areas::new(alloc),
             number: 1,
+            grows: false,
         }),
+        grows: false,
     };
     write(alloc, disk, &layout, 32, false, 13)
 }

@@ -248,6 +248,29 @@ fn slots_are_read_and_written_where_the_head_names_them(rt: HostRuntime) -> Resu
     Ok(())
 }
 
+/// The first byte of the Base behind the first switch, and whether the last entry, and one more, are loaded again, of a store
+/// whose next segments' room grows or doesn't.
+fn grown(alloc: Global, grows: bool) -> Result<(u8, bool, bool), Fail> {
+    let mut store = formatted(alloc)?;
+    store.grow(grows);
+    fill(alloc, &mut store, 64)?;
+    let mut disk = store.into_disk();
+    let kind = byte_at(&mut disk, 1_956)?;
+    let mut again = loaded(alloc, disk)?;
+    let has_last = has(&again, 64)? && holds_nine(alloc, &mut again)?;
+    accept_one(alloc, &mut again, 65)?;
+    let more = loaded(alloc, again.into_disk())?;
+    Ok((kind, has_last, has(&more, 65)?))
+}
+
+#[test]
+fn a_base_tells_whether_its_segment_grows(rt: HostRuntime) -> Result<(), Fail> {
+    for (grows, kind) in [(false, 13), (true, 14)] {
+        assert_eq!(rt; grown(rt.alloc(), grows)?, (kind, true, true));
+    }
+    Ok(())
+}
+
 /// From which offset on a load finds such a disk damaged, after a number of eight bytes was written over at an offset: the
 /// disk's length and one, less this; 0 where it doesn't.
 fn damaged_past(alloc: Global, at: u64, less: u64) -> Result<u64, Fail>

@@ -15,7 +15,7 @@ returns-then-is_blank-clause-formats g c x r blank tells =
     let up = c.in-Ok.ensures in
     let exact = up.exact p (found x x.cut) refl (fine_reads x.fault p blank.lies.armed) (stands_found config c.args.id p x blank.lies) (no_first config c.args.id p x blank.lies) in
     let disk = some_is (disk_plain (disk_of node)) (after_call None p) exact.0 in
-    let is = fresh config c.args.id p x blank.lies node up.opens disk exact.1 up.node.0 up.node.1 up.node.2 (blank_stays config c.args.id p x blank.lies node up.opens disk exact.1 blank.cut blank.plain) in
+    let is = fresh config c.args.id p x blank.lies node up.opens up.still disk exact.1 up.node.0 up.node.1 up.node.2 (blank_stays config c.args.id p x blank.lies node up.opens up.still disk exact.1 blank.cut blank.plain) in
     c.draw.ensures.formats config c.args.id x r is.0 is.1 tells
 
 pub returns-else-is_blank-clause-formats : goal.returns-else-is_blank-clause-formats
@@ -26,7 +26,7 @@ returns-else-is_blank-clause-formats g c x r blank tells =
     let up = c.in-Ok.ensures in
     let exact = up.exact p (found x x.cut) refl (fine_reads x.fault p blank.lies.armed) (stands_found config c.args.id p x blank.lies) (no_first config c.args.id p x blank.lies) in
     let disk = some_is (disk_plain (disk_of node)) (after_call None p) exact.0 in
-    let is = blank_stays config c.args.id p x blank.lies node up.opens disk exact.1 blank.cut blank.plain in
+    let is = blank_stays config c.args.id p x blank.lies node up.opens up.still disk exact.1 blank.cut blank.plain in
     absurd (true≢false (sym is ∙ (sym c.is_blank.ensures ∙ c.if-is_blank.false)))
 
 pub returns-in_ok-state-in-Err-clause-formats : goal.returns-in_ok-state-in-Err-clause-formats

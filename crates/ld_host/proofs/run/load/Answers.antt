@@ -14,7 +14,7 @@ returns-in-Ok-clause-stands c x lies =
     let node = c.in-Ok.node in
     let up = c.in-Ok.ensures in
     let exact = up.exact p (found x x.cut) refl (fine_reads x.fault p lies.armed) (stands_found c.args.config.now c.args.id p x lies) (no_first c.args.config.now c.args.id p x lies) in
-    rises c.args.config.now c.args.id p x lies node up.opens (some_is (disk_plain (disk_of node)) (after_call None p) exact.0) exact.1 up.node.0 up.node.1 up.node.2 c.risen.result (states.Up node) (λ y runs. runs) c.risen.ensures.up c.risen.ensures.down
+    rises c.args.config.now c.args.id p x lies node up.opens up.still (some_is (disk_plain (disk_of node)) (after_call None p) exact.0) exact.1 up.node.0 up.node.1 up.node.2 c.risen.result (states.Up node) (λ y runs. runs) c.risen.ensures.up c.risen.ensures.down
 
 pub returns-in-Err-clause-stands : goal.returns-in-Err-clause-stands
 returns-in-Err-clause-stands c x lies =

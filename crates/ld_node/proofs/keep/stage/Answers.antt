@@ -1,6 +1,5 @@
-use Rattle.std.proofs.Common.{◌≡◌, inl, inr, ⊎_elim, Option, Some, refl, sym, subst, ◌∙◌}
+use Rattle.std.proofs.Common.{inl, inr, ⊎_elim, Option, refl, sym, subst, ◌∙◌}
 use Rattle.std.proofs.lemmas.Result.{err_from_is_err_and}
-use Rattle.ld_disk.specs.Moments.{LeavesOnly}
 use Rattle.ld_disk.proofs.Runs.{started}
 use Rattle.ld_op.specs.declared.op.Op.{Op}
 use Rattle.ld_store.specs.Ops.{StandsForEither}

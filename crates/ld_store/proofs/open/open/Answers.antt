@@ -10,6 +10,7 @@ use Rattle.ld_store.proofs.Blank.{blank_read}
 use Rattle.ld_store.proofs.Marking.{some_bytes, rests_on, unchanged_too, open_unmarked, open_marked, leaves_marked, of_first, no_room, was_first, was_layout, was_row, was_passes, was_stands, passes_past}
 use Rattle.ld_store.proofs.Loading.{marks_done, marks_refused, marks_unread}
 use Rattle.ld_store.proofs.Behind.{no_false}
+use Rattle.ld_store.proofs.Turned.{marked_still}
 use Rattle.ld_store.proofs.open.open.Goals as goal
 
 pub returns-in_err-laid-clause-marks : goal.returns-in_err-laid-clause-marks
@@ -121,3 +122,6 @@ returns-clause-too_long g c bytes settled room =
     let D = g.D.Disk in
     let read = c.in_ok-laid.ensures.read bytes settled.rests.bytes_are settled.long (some_bytes c.args.len bytes settled.long settled.some) in
     c.in_ok-mark.ensures.within (inl refl) (passes_past (layout_in c.in_ok-laid.field-0.laid c.in_ok-laid.field-0.index.state) (slots_in c.in_ok-laid.field-0.laid) (subst (λ x. mark_passes x ≡ true) (was_layout bytes c.in_ok-laid.field-0.laid c.in_ok-laid.field-0.index.state c.in_ok-laid.field-0.version read room.was) room.long))
+
+pub returns-clause-still : goal.returns-clause-still
+returns-clause-still g c = ap (λ y. y.grows) c.in_ok-mark.ensures.layout ∙ marked_still (layout_in c.in_ok-laid.field-0.laid c.in_ok-laid.field-0.index.state) ∙ c.in_ok-laid.ensures.still

@@ -1,5 +1,5 @@
-use Rattle.std.proofs.Common.{◌≡◌, inl, inr, ⊎_elim, refl, true, Some, sym, ap, subst, ◌∙◌}
-use Rattle.ld_disk.specs.Moments.{LeavesOnly, Unchanged}
+use Rattle.std.proofs.Common.{inl, inr, ⊎_elim, refl, sym, subst, ◌∙◌}
+use Rattle.ld_disk.specs.Moments.{LeavesOnly}
 use Rattle.ld_disk.proofs.Runs.{begins_on}
 use Rattle.ld_op.specs.Plain.{Plain}
 use Rattle.ld_store.specs.Ops.{StandsForEither}

@@ -1,4 +1,5 @@
 use Rattle.std.proofs.Common.{◌+◌, inl, inr, ⊎_elim, length, refl, Err, ap, ◌∙◌, arith}
+use Rattle.ld_layout.specs.Layout.{kind_of}
 use Rattle.ld_segment.specs.Lies.{StandsForEither, IsRowTorn, slots_with}
 use Rattle.ld_segment.proofs.Steps.{said_as}
 use Rattle.ld_op.specs.Plain.{apply}
@@ -17,8 +18,8 @@ use Rattle.ld_store.proofs.store.Store.apply.Goals as goal
 pub room-requires : goal.room-requires
 room-requires g c = op_rises c.args.op c.requires.op
 
-pub write_record-requires : goal.write_record-requires
-write_record-requires g c = record { fits = body_fits c.args.op c.encode.new.out.items c.requires.op (body_is c.args.op c.new-body.result.items c.encode.new.out.items c.new-body.ensures.items c.in_ok-encode.ensures.ok) }
+pub keep_op-requires : goal.keep_op-requires
+keep_op-requires g c = record { fits = body_fits c.args.op c.encode.new.out.items c.requires.op (body_is c.args.op c.new-body.result.items c.encode.new.out.items c.new-body.ensures.items c.in_ok-encode.ensures.ok) }
 
 pub apply-requires-clause-fits : goal.apply-requires-clause-fits
 apply-requires-clause-fits g c =
@@ -37,7 +38,7 @@ returns-in-Ok-clause-kept g c =
     let long = body_long c.args.op c.encode.new.out.items is in
     let old = c.args.self.now in
     let laid = c.in-Ok.ensures.laid in (
-      laid_kept old.laid laid.0 c.write_record.new.laid.layout c.room.new.self.state c.apply.new.self.state old.index.state c.args.op c.in-Ok.gate (length c.encode.new.out.items) same long laid.1 laid.2 laid.3 c.apply.ensures,
+      laid_kept old.laid laid.0 c.keep_op.new.laid.layout c.room.new.self.state c.apply.new.self.state old.index.state c.args.op c.in-Ok.gate (length c.encode.new.out.items) same long laid.1 laid.2 laid.3 c.apply.ensures,
       c.in-Ok.ensures.slots ∙ (λ k. slots_with (layout_in old.laid (same k)) (slots_of old) (long k)),
       refl,
     )
@@ -67,9 +68,9 @@ returns-in-Ok-clause-any_moment g c holds =
     let p = plain_of old in
     let is = body_is c.args.op c.new-body.result.items c.encode.new.out.items c.new-body.ensures.items c.in_ok-encode.ensures.ok in
     ⊎_elim
-    (λ leaves. said_as D.seen D.may_leave D.moment D.left_since (disk_of old) c.write_record.new.disk (IsRowTorn 13 (layout_in old.laid c.room.new.self.state) (slots_of old) c.encode.new.out.items holds.bytes) (StandsForEither p (apply p c.args.op)) leaves
+    (λ leaves. said_as D.seen D.may_leave D.moment D.left_since (disk_of old) c.keep_op.new.disk (IsRowTorn (kind_of (layout_in old.laid c.room.new.self.state)) (layout_in old.laid c.room.new.self.state) (slots_of old) c.encode.new.out.items holds.bytes) (StandsForEither p (apply p c.args.op)) leaves
     (stand_either D.may_leave old c.args.op c.room.new.self.state c.encode.new.out.items c.in_ok-room.ensures.same is holds c.requires.op c.requires.format (c.in-Ok.ensures.within (inl refl))))
-    (λ same. same_leaves D.seen D.may_leave D.moment D.left_since g.met.D.Disk.only_now old c.write_record.new.disk (apply p c.args.op) holds same)
+    (λ same. same_leaves D.seen D.may_leave D.moment D.left_since g.met.D.Disk.only_now old c.keep_op.new.disk (apply p c.args.op) holds same)
     (c.in-Ok.ensures.any_moment holds.bytes holds.rests)
 
 pub returns-in-Ok-clause-too_long : goal.returns-in-Ok-clause-too_long
@@ -84,10 +85,10 @@ returns-in-Err-clause-any_moment g c holds =
     let old = c.args.self.now in
     let p = plain_of old in
     let is = body_is c.args.op c.new-body.result.items c.encode.new.out.items c.new-body.ensures.items c.in_ok-encode.ensures.ok in
-    let stays = same_leaves D.seen D.may_leave D.moment D.left_since g.met.D.Disk.only_now old c.write_record.new.disk (apply p c.args.op) holds in
+    let stays = same_leaves D.seen D.may_leave D.moment D.left_since g.met.D.Disk.only_now old c.keep_op.new.disk (apply p c.args.op) holds in
     ⊎_elim
     (λ failed. ⊎_elim
-    (λ leaves. said_as D.seen D.may_leave D.moment D.left_since (disk_of old) c.write_record.new.disk (IsRowTorn 13 (layout_in old.laid c.room.new.self.state) (slots_of old) c.encode.new.out.items holds.bytes) (StandsForEither p (apply p c.args.op)) leaves
+    (λ leaves. said_as D.seen D.may_leave D.moment D.left_since (disk_of old) c.keep_op.new.disk (IsRowTorn (kind_of (layout_in old.laid c.room.new.self.state)) (layout_in old.laid c.room.new.self.state) (slots_of old) c.encode.new.out.items holds.bytes) (StandsForEither p (apply p c.args.op)) leaves
     (stand_either D.may_leave old c.args.op c.room.new.self.state c.encode.new.out.items c.in_ok-room.ensures.same is holds c.requires.op c.requires.format (c.in-Err.ensures.within (inr failed))))
     stays
     (c.in-Err.ensures.any_moment holds.bytes holds.rests))
