@@ -43,6 +43,7 @@ fn bring<D: Disk, N: Nodes>(
         (Halted id known c r (D.may_leave (disk_of node.new)) (at_of node.old asked far) written written) }
     ensures silent { N.silent nodes.old ≡ true → N.silent nodes.new ≡ true }
     ensures rest { is_blank node.new ≡ false }
+    ensures lent { D.identity (disk_of node.new) ≡ D.identity (disk_of node.old) }
     ensures works { OnOk result (must_load node.new ≡ false) }
     ensures cause { IfErr result (IsCarryStop (D.faults (disk_of node.old)) (D.faults (disk_of node.new)) (N.off nodes.new)) }
     ensures later { D.faults (disk_of node.old) ≤ D.faults (disk_of node.new) }
@@ -79,6 +80,7 @@ pub(crate) fn carry<D: Disk, N: Nodes>(
         (Halted id known c r (D.may_leave (disk_of node.new)) (at_of node.old asks.now far) written written) }
     ensures silent { N.silent nodes.old ≡ true → N.silent nodes.new ≡ true }
     ensures rest { is_blank node.new ≡ false }
+    ensures lent { D.identity (disk_of node.new) ≡ D.identity (disk_of node.old) }
     ensures works { OnOk result (must_load node.new ≡ false) }
     ensures cause { IfErr result (IsCarryStop (D.faults (disk_of node.old)) (D.faults (disk_of node.new)) (N.off nodes.new)) }
     ensures later { D.faults (disk_of node.old) ≤ D.faults (disk_of node.new) }

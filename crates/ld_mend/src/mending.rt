@@ -48,6 +48,7 @@ fn turn<D: Disk, G: Register, N: Nodes, O: Sink>(
         (Halted id known c r (D.may_leave (disk_of node.new)) (at_of node.old asked far) (O.written out.old) (O.written out.new)) }
     ensures silent { N.silent nodes.old ≡ true → N.silent nodes.new ≡ true }
     ensures rest { is_blank node.new ≡ false }
+    ensures lent { D.identity (disk_of node.new) ≡ D.identity (disk_of node.old) }
     ensures works { OnOk result (must_load node.new ≡ false) }
     ensures cause { IfErr result (IsStop (WasDamaged G.told G.damaged G.identity reg.old) (counts (D.faults (disk_of node.old)) (G.faults reg.old) (O.faults out.old)) (counts (D.faults (disk_of node.new)) (G.faults reg.new) (O.faults out.new)) (N.off nodes.new)) }
     ensures later { AreLater (counts (D.faults (disk_of node.old)) (G.faults reg.old) (O.faults out.old)) (counts (D.faults (disk_of node.new)) (G.faults reg.new) (O.faults out.new)) }
@@ -82,6 +83,7 @@ fn round<D: Disk, G: Register, N: Nodes, O: Sink>(
         (Halted id (known_in config.now) config.now r (D.may_leave (disk_of node.new)) (at_of node.old asked far) (O.written out.old) (O.written out.new)) }
     ensures silent { N.silent nodes.old ≡ true → N.silent nodes.new ≡ true }
     ensures rest { is_blank node.new ≡ false }
+    ensures lent { D.identity (disk_of node.new) ≡ D.identity (disk_of node.old) }
     ensures works { OnOk result (must_load node.new ≡ false) }
     ensures cause { IfErr result (IsStop (WasDamaged G.told G.damaged G.identity reg.old) (counts (D.faults (disk_of node.old)) (G.faults reg.old) (O.faults out.old)) (counts (D.faults (disk_of node.new)) (G.faults reg.new) (O.faults out.new)) (N.off nodes.new)) }
     ensures later { AreLater (counts (D.faults (disk_of node.old)) (G.faults reg.old) (O.faults out.old)) (counts (D.faults (disk_of node.new)) (G.faults reg.new) (O.faults out.new)) }
@@ -143,6 +145,7 @@ fn go_round<D: Disk, G: Register, N: Nodes, O: Sink>(
         (Halted id (known_in config.now) config.now r (D.may_leave (disk_of node.new)) (at_of node.old asked far) (O.written out.old) (O.written out.new)) }
     ensures silent { N.silent nodes.old ≡ true → N.silent nodes.new ≡ true }
     ensures rest { is_blank node.new ≡ false }
+    ensures lent { D.identity (disk_of node.new) ≡ D.identity (disk_of node.old) }
     ensures works { OnOk result (must_load node.new ≡ false) }
     ensures cause { IfErr result (IsStop (WasDamaged G.told G.damaged G.identity reg.old) (counts (D.faults (disk_of node.old)) (G.faults reg.old) (O.faults out.old)) (counts (D.faults (disk_of node.new)) (G.faults reg.new) (O.faults out.new)) (N.off nodes.new)) }
     ensures later { AreLater (counts (D.faults (disk_of node.old)) (G.faults reg.old) (O.faults out.old)) (counts (D.faults (disk_of node.new)) (G.faults reg.new) (O.faults out.new)) }
@@ -177,6 +180,7 @@ fn stand<D: Disk, G: Register, O: Sink>(
         (λ lacks. IsThere D.seen D.may_leave id known node.new × G.holds reg.new r × Knows id known c r (at_of node.old asked far) (λ last. at_of node.new last far) log lacks (O.written out.old) (O.written out.new))
         (Halted id known c r (D.may_leave (disk_of node.new)) (at_of node.old asked far) (O.written out.old) (O.written out.new)) }
     ensures rest { is_blank node.new ≡ false }
+    ensures lent { D.identity (disk_of node.new) ≡ D.identity (disk_of node.old) }
     ensures works { OnOk result (must_load node.new ≡ false) }
     ensures cause { IfErr result (IsStop (WasDamaged G.told G.damaged G.identity reg.old) (counts (D.faults (disk_of node.old)) (G.faults reg.old) (O.faults out.old)) (counts (D.faults (disk_of node.new)) (G.faults reg.new) (O.faults out.new)) None) }
     ensures later { AreLater (counts (D.faults (disk_of node.old)) (G.faults reg.old) (O.faults out.old)) (counts (D.faults (disk_of node.new)) (G.faults reg.new) (O.faults out.new)) }
@@ -207,6 +211,7 @@ fn tell_log<D: Disk, G: Register, O: Sink>(
         (λ mended. IsThere D.seen D.may_leave id known node.new × G.holds reg.new r × Told id known c r (at_of node.old asked far) (λ last. at_of node.new last far) (log ∷ []) mended (O.written out.old) (O.written out.new))
         (Halted id known c r (D.may_leave (disk_of node.new)) (at_of node.old asked far) (O.written out.old) (O.written out.new)) }
     ensures rest { is_blank node.new ≡ false }
+    ensures lent { D.identity (disk_of node.new) ≡ D.identity (disk_of node.old) }
     ensures works { OnOk result (must_load node.new ≡ false) }
     ensures cause { IfErr result (IsStop (WasDamaged G.told G.damaged G.identity reg.old) (counts (D.faults (disk_of node.old)) (G.faults reg.old) (O.faults out.old)) (counts (D.faults (disk_of node.new)) (G.faults reg.new) (O.faults out.new)) None) }
     ensures later { AreLater (counts (D.faults (disk_of node.old)) (G.faults reg.old) (O.faults out.old)) (counts (D.faults (disk_of node.new)) (G.faults reg.new) (O.faults out.new)) }
@@ -235,6 +240,7 @@ fn tell<D: Disk, G: Register, O: Sink>(
         (λ mended. IsThere D.seen D.may_leave id (known_in config.now) node.new × G.holds reg.new r × Told id (known_in config.now) config.now r (at_of node.old asked far) (λ last. at_of node.new last far) (logs_of config.now.logs) mended (O.written out.old) (O.written out.new))
         (Halted id (known_in config.now) config.now r (D.may_leave (disk_of node.new)) (at_of node.old asked far) (O.written out.old) (O.written out.new)) }
     ensures rest { is_blank node.new ≡ false }
+    ensures lent { D.identity (disk_of node.new) ≡ D.identity (disk_of node.old) }
     ensures works { OnOk result (must_load node.new ≡ false) }
     ensures cause { IfErr result (IsStop (WasDamaged G.told G.damaged G.identity reg.old) (counts (D.faults (disk_of node.old)) (G.faults reg.old) (O.faults out.old)) (counts (D.faults (disk_of node.new)) (G.faults reg.new) (O.faults out.new)) None) }
     ensures later { AreLater (counts (D.faults (disk_of node.old)) (G.faults reg.old) (O.faults out.old)) (counts (D.faults (disk_of node.new)) (G.faults reg.new) (O.faults out.new)) }
@@ -287,6 +293,7 @@ pub fn mend<D: Disk, G: Register, N: Nodes, O: Sink>(
         (Halted id (known_in config.now) config.now r (D.may_leave (disk_of node.new)) (at_of node.old asked far) (O.written out.old) (O.written out.new)) }
     ensures silent { N.silent nodes.old ≡ true → N.silent nodes.new ≡ true }
     ensures rest { is_blank node.new ≡ false }
+    ensures lent { D.identity (disk_of node.new) ≡ D.identity (disk_of node.old) }
     ensures works { OnOk result (must_load node.new ≡ false) }
     ensures cause { IfErr result (IsStop (WasDamaged G.told G.damaged G.identity reg.old) (counts (D.faults (disk_of node.old)) (G.faults reg.old) (O.faults out.old)) (counts (D.faults (disk_of node.new)) (G.faults reg.new) (O.faults out.new)) (N.off nodes.new)) }
     ensures later { AreLater (counts (D.faults (disk_of node.old)) (G.faults reg.old) (O.faults out.old)) (counts (D.faults (disk_of node.new)) (G.faults reg.new) (O.faults out.new)) }

@@ -85,6 +85,7 @@ fn ask_self<D: Disk>(
         × (lets ≡ is_open (read_answer (plain_of node.old).generation (log_of (plain_of node.old) log) (released_in (released_of node.old) log) 1 (numbered epoch last_esn))))
         (Leaves id known c r (D.may_leave (disk_of node.new)) (at_of node.old asked far)) }
     ensures rest { is_blank node.new ≡ false }
+    ensures lent { D.identity (disk_of node.new) ≡ D.identity (disk_of node.old) }
     ensures works { OnOk result (must_load node.new ≡ false) }
     ensures cause { IfErr result (IsCarryStop (D.faults (disk_of node.old)) (D.faults (disk_of node.new)) None) }
     ensures later { D.faults (disk_of node.old) ≤ D.faults (disk_of node.new) }
@@ -123,6 +124,7 @@ pub(crate) fn open_number<D: Disk, G: Register>(
         (λ lacks. IsThere D.seen D.may_leave id known node.new × G.holds reg.new r × (at_of node.new asked far ≡ at_of node.old asked far) × OpenAt id known c r (at_of node.old asked far) log lacks)
         (Leaves id known c r (D.may_leave (disk_of node.new)) (at_of node.old asked far)) }
     ensures rest { is_blank node.new ≡ false }
+    ensures lent { D.identity (disk_of node.new) ≡ D.identity (disk_of node.old) }
     ensures works { OnOk result (must_load node.new ≡ false) }
     ensures cause { IfErr result (IsStop (WasDamaged G.told G.damaged G.identity reg.old) (counts (D.faults (disk_of node.old)) (G.faults reg.old) 0) (counts (D.faults (disk_of node.new)) (G.faults reg.new) 0) None) }
     ensures later { AreLater (counts (D.faults (disk_of node.old)) (G.faults reg.old) 0) (counts (D.faults (disk_of node.new)) (G.faults reg.new) 0) }

@@ -44,6 +44,7 @@ fn tick<D: Disk, G: Register, O: Sink>(
         (Halted id known c r (D.may_leave (disk_of node.new)) (at_of node.old asked far) (O.written out.old) (O.written out.new)) }
     ensures messages { IfOk result AskMessages }
     ensures rest { is_blank node.new ≡ false }
+    ensures lent { D.identity (disk_of node.new) ≡ D.identity (disk_of node.old) }
     ensures works { OnOk result (must_load node.new ≡ false) }
     ensures cause { IfErr result (IsStop (WasDamaged G.told G.damaged G.identity reg.old) (counts (D.faults (disk_of node.old)) (G.faults reg.old) (O.faults out.old)) (counts (D.faults (disk_of node.new)) (G.faults reg.new) (O.faults out.new)) None) }
     ensures later { AreLater (counts (D.faults (disk_of node.old)) (G.faults reg.old) (O.faults out.old)) (counts (D.faults (disk_of node.new)) (G.faults reg.new) (O.faults out.new)) }
@@ -80,6 +81,7 @@ pub(crate) fn settle<D: Disk, G: Register, O: Sink>(
         (Halted id known c r (D.may_leave (disk_of node.new)) (at_of node.old asked far) (O.written out.old) (O.written out.new)) }
     ensures messages { IfOk result (λ asks. AreMessages (asks_of asks)) }
     ensures rest { is_blank node.new ≡ false }
+    ensures lent { D.identity (disk_of node.new) ≡ D.identity (disk_of node.old) }
     ensures works { OnOk result (must_load node.new ≡ false) }
     ensures cause { IfErr result (IsStop (WasDamaged G.told G.damaged G.identity reg.old) (counts (D.faults (disk_of node.old)) (G.faults reg.old) (O.faults out.old)) (counts (D.faults (disk_of node.new)) (G.faults reg.new) (O.faults out.new)) None) }
     ensures later { AreLater (counts (D.faults (disk_of node.old)) (G.faults reg.old) (O.faults out.old)) (counts (D.faults (disk_of node.new)) (G.faults reg.new) (O.faults out.new)) }

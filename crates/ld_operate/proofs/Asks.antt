@@ -5,7 +5,7 @@ use Rattle.std.specs.List.{range_with_len}
 use Rattle.std.proofs.lemmas.List.Elements.{filter-append}
 use Rattle.ld_operate.specs.Asked.{asked, past_epoch}
 
-range_split : (a n m : ℕ) → range_with_len a (n + m) ≡ range_with_len a n ++ range_with_len (a + n) m
+pub range_split : (a n m : ℕ) → range_with_len a (n + m) ≡ range_with_len a n ++ range_with_len (a + n) m
 range_split a zero m = let e : a + 0 ≡ a = omega arith in let z : 0 + m ≡ m = omega arith in ap (λ k. range_with_len a k) z ∙ ap (λ k. range_with_len k m) (sym e)
 range_split a (suc n) m =
     let e : (a + 1) + n ≡ a + suc n = omega arith in

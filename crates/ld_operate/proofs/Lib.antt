@@ -4,5 +4,7 @@ pub mod Groups
 pub mod Hearing
 pub mod Looks
 pub mod Numbers
-pub mod Writing
 pub mod SameSpec
+pub mod Trimmed
+pub mod Views
+pub mod Writing

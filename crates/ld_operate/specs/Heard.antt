@@ -88,32 +88,32 @@ pub record Unheard (tells_old : Config → Far → Type 0) (silent : Bool) (log 
   pub told : (c : Config) (nodes : List (ℕ × Node)) → Faces (tells_old c) nodes y → is_up_in nodes y ≡ true → has_log c log ≡ true → silent ≡ true
 
 -- the answers to the first two asks, whose line was written
-pub record HeardPoints (tells_old tells_new : Config → Far → Type 0) (silent : Bool) (log y : ℕ) (old new : List ℕ) (trim : ℕ) : Type 0 where
+pub record HeardPoints (json : Bool) (tells_old tells_new : Config → Far → Type 0) (silent : Bool) (log y : ℕ) (old new : List ℕ) (trim : ℕ) : Type 0 where
   pub first : Body
   pub second : Body
   pub is : trim ≡ trim_told first
-  pub written : new ≡ old ++ points_line y first second
+  pub written : new ≡ old ++ points_line json y first second
   pub told : (c : Config) (nodes : List (ℕ × Node)) → Faces (tells_old c) nodes y → is_up_in nodes y ≡ true → has_log c log ≡ true
       → (silent ≡ true) ⊎ ((first ≡ node_answer (node_at (alone nodes) y) log first_number) × (second ≡ node_answer (node_at (alone nodes) y) log past_all) × Faces (tells_new c) nodes y)
 
 -- the answer for an epoch, whose line was written
-pub record HeardState (tells_old tells_new : Config → Far → Type 0) (silent : Bool) (log y epoch : ℕ) (old new : List ℕ) : Type 0 where
+pub record HeardState (json : Bool) (tells_old tells_new : Config → Far → Type 0) (silent : Bool) (log y epoch : ℕ) (old new : List ℕ) : Type 0 where
   pub answer : Body
-  pub written : new ≡ old ++ state_line y epoch answer
+  pub written : new ≡ old ++ state_line json y epoch answer
   pub told : (c : Config) (nodes : List (ℕ × Node)) → Faces (tells_old c) nodes y → is_up_in nodes y ≡ true → has_log c log ≡ true
       → (silent ≡ true) ⊎ ((answer ≡ node_answer (node_at (alone nodes) y) log (past_epoch epoch)) × Faces (tells_new c) nodes y)
 
-abbrev pub HeardOrNot : (Config → Far → Type 0) → (Config → Far → Type 0) → Bool → ℕ → ℕ → ℕ → List ℕ → List ℕ → Bool → Type 0
-HeardOrNot tells_old tells_new silent log y epoch old new true = HeardState tells_old tells_new silent log y epoch old new
-HeardOrNot tells_old tells_new silent log y epoch old new false = Unheard tells_old silent log y old new
+abbrev pub HeardOrNot : Bool → (Config → Far → Type 0) → (Config → Far → Type 0) → Bool → ℕ → ℕ → ℕ → List ℕ → List ℕ → Bool → Type 0
+HeardOrNot json tells_old tells_new silent log y epoch old new true = HeardState json tells_old tells_new silent log y epoch old new
+HeardOrNot json tells_old tells_new silent log y epoch old new false = Unheard tells_old silent log y old new
 
 -- the answers for epochs, whose lines were written
-pub record HeardStates (tells_old tells_new : Config → Far → Type 0) (silent : Bool) (log y trim first count : ℕ) (old new : List ℕ) (whole : Bool) : Type 0 where
+pub record HeardStates (json : Bool) (tells_old tells_new : Config → Far → Type 0) (silent : Bool) (log y trim first count : ℕ) (old new : List ℕ) (whole : Bool) : Type 0 where
   pub states : List (ℕ × Body)
   pub rest : List ℕ
   pub are : asked trim first count ≡ epochs_in states ++ rest
   pub all : whole ≡ true → rest ≡ []
-  pub written : new ≡ old ++ state_lines y states
+  pub written : new ≡ old ++ state_lines json y states
   pub told : (c : Config) (nodes : List (ℕ × Node)) → Faces (tells_old c) nodes y → is_up_in nodes y ≡ true → has_log c log ≡ true
       → (silent ≡ true) ⊎ ((whole ≡ true) × (states ≡ states_of (node_at (alone nodes) y) log (asked trim first count)) × Faces (tells_new c) nodes y)
 
@@ -127,11 +127,11 @@ pub record Heard (text : ℕ → Said → List ℕ) (tells_old tells_new : Confi
       → (silent ≡ true) ⊎ ((said ≡ said_of (node_at (alone nodes) y) log first count) × Stand (tells_new c) nodes)
 
 -- what each node of a list said
-pub record HeardAll (tells_old tells_new : Config → Far → Type 0) (silent : Bool) (log first count : ℕ) (ys : List ℕ) (old new : List ℕ) (whole : Bool) : Type 0 where
+pub record HeardAll (json : Bool) (tells_old tells_new : Config → Far → Type 0) (silent : Bool) (log first count : ℕ) (ys : List ℕ) (old new : List ℕ) (whole : Bool) : Type 0 where
   pub saids : List (ℕ × Said)
   pub nodes_are : map (λ s. s.0) saids ≡ ys
   pub are : All (λ s. IsSaid first count s.1) saids
   pub whole_is : whole ≡ list_all (λ s. is_whole s.1) saids
-  pub written : new ≡ old ++ saids_text saids
+  pub written : new ≡ old ++ saids_text json saids
   pub told : (c : Config) (nodes : List (ℕ × Node)) → Stand (tells_old c) nodes → has_log c log ≡ true
       → (silent ≡ true) ⊎ ((saids ≡ saids_of nodes log first count ys) × Stand (tells_new c) nodes)

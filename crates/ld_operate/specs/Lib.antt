@@ -1,7 +1,10 @@
 pub mod Asked
 pub mod Heard
 pub mod Looking
+pub mod Members
 pub mod Moving
 pub mod Output
 pub mod Shown
 pub mod Status
+pub mod Trims
+pub mod Views

@@ -5,6 +5,7 @@ mod answers;
 mod asking;
 mod lines;
 mod looking;
+mod members;
 mod moving;
 mod nodes;
 mod output;
@@ -12,8 +13,10 @@ mod parts;
 mod registers;
 mod status;
 mod stop;
+mod trims;
 
 pub use moving::moved_from;
 pub use registers::register_lines;
 pub use status::status_lines;
 pub use stop::{LookStop, StatusStop};
+pub use trims::tell_trims;

@@ -15,7 +15,7 @@ use ld_lsn::Lsn;
 use std::alloc::Global;
 
 /// Writes a line.
-fn write<O: Sink>(out: &mut O, line: &[u8]) -> Result<(), StatusStop>
+pub(crate) fn write<O: Sink>(out: &mut O, line: &[u8]) -> Result<(), StatusStop>
     ensures written { OnOk result (O.written out.new ≡ O.written out.old ++ line.now) }
     ensures cause { IfErr result (IsNodeStop (O.faults out.old) (O.faults out.new) None) }
     ensures later { O.faults out.old ≤ O.faults out.new }
@@ -30,12 +30,13 @@ fn write<O: Sink>(out: &mut O, line: &[u8]) -> Result<(), StatusStop>
 /// where the node is silent, and then nothing is written.
 fn show_points<N: Nodes, O: Sink>(
     alloc: Global,
+    json: bool,
     log: LogId,
     node: NodeId,
     nodes: &mut N,
     out: &mut O,
 ) -> Result<Option<Lsn>, StatusStop>
-    ensures heard { IfOk result (λ trim. MatchOption trim (Unheard (N.tells nodes.old) (N.silent nodes.new) log node (O.written out.old) (O.written out.new)) (HeardPoints (N.tells nodes.old) (N.tells nodes.new) (N.silent nodes.new) log node (O.written out.old) (O.written out.new))) }
+    ensures heard { IfOk result (λ trim. MatchOption trim (Unheard (N.tells nodes.old) (N.silent nodes.new) log node (O.written out.old) (O.written out.new)) (HeardPoints json (N.tells nodes.old) (N.tells nodes.new) (N.silent nodes.new) log node (O.written out.old) (O.written out.new))) }
     ensures broken { IfOk result (λ trim. IfNone trim (IsBroken (N.faults nodes.old) (N.faults nodes.new) (N.endings nodes.old) (N.endings nodes.new))) }
     ensures later { AreLater (N.faults nodes.old) (N.faults nodes.new) (N.endings nodes.old) (N.endings nodes.new) }
     ensures output { O.faults out.old ≤ O.faults out.new }
@@ -51,7 +52,7 @@ fn show_points<N: Nodes, O: Sink>(
         None => return Ok(None),
     };
     let mut line = Vec::new(alloc);
-    points_line(&mut line, node, &first, &second)?;
+    points_line(&mut line, json, node, &first, &second)?;
     write(out, &line)?;
     Ok(Some(trim_told(&first)))
 }
@@ -60,13 +61,14 @@ fn show_points<N: Nodes, O: Sink>(
 /// nothing is written.
 fn show_state<N: Nodes, O: Sink>(
     alloc: Global,
+    json: bool,
     log: LogId,
     node: NodeId,
     epoch: u32,
     nodes: &mut N,
     out: &mut O,
 ) -> Result<bool, StatusStop>
-    ensures heard { IfOk result (HeardOrNot (N.tells nodes.old) (N.tells nodes.new) (N.silent nodes.new) log node epoch (O.written out.old) (O.written out.new)) }
+    ensures heard { IfOk result (HeardOrNot json (N.tells nodes.old) (N.tells nodes.new) (N.silent nodes.new) log node epoch (O.written out.old) (O.written out.new)) }
     ensures broken { IfOk result (λ answered. answered ≡ false → IsBroken (N.faults nodes.old) (N.faults nodes.new) (N.endings nodes.old) (N.endings nodes.new)) }
     ensures later { AreLater (N.faults nodes.old) (N.faults nodes.new) (N.endings nodes.old) (N.endings nodes.new) }
     ensures output { O.faults out.old ≤ O.faults out.new }
@@ -78,7 +80,7 @@ fn show_state<N: Nodes, O: Sink>(
         None => return Ok(false),
     };
     let mut line = Vec::new(alloc);
-    state_line(&mut line, node, epoch, &answer)?;
+    state_line(&mut line, json, node, epoch, &answer)?;
     write(out, &line)?;
     Ok(true)
 }
@@ -87,6 +89,7 @@ fn show_state<N: Nodes, O: Sink>(
 /// trimmed whole, and writes a line for each. False where the node fell silent.
 fn show_states<N: Nodes, O: Sink>(
     alloc: Global,
+    json: bool,
     log: LogId,
     node: NodeId,
     trim: Lsn,
@@ -96,7 +99,7 @@ fn show_states<N: Nodes, O: Sink>(
     out: &mut O,
 ) -> Result<bool, StatusStop>
     requires { last ≤ 2 ^ 32 - 2 }
-    ensures heard { IfOk result (HeardStates (N.tells nodes.old) (N.tells nodes.new) (N.silent nodes.new) log node trim first (last + 1 - first) (O.written out.old) (O.written out.new)) }
+    ensures heard { IfOk result (HeardStates json (N.tells nodes.old) (N.tells nodes.new) (N.silent nodes.new) log node trim first (last + 1 - first) (O.written out.old) (O.written out.new)) }
     ensures broken { IfOk result (λ whole. whole ≡ false → IsBroken (N.faults nodes.old) (N.faults nodes.new) (N.endings nodes.old) (N.endings nodes.new)) }
     ensures later { AreLater (N.faults nodes.old) (N.faults nodes.new) (N.endings nodes.old) (N.endings nodes.new) }
     ensures output { O.faults out.old ≤ O.faults out.new }
@@ -105,7 +108,7 @@ fn show_states<N: Nodes, O: Sink>(
 {
     for epoch in first..last + 1 {
         if trim.value() < Lsn::new(epoch, u32::MAX).value() {
-            let answered = show_state(alloc, log, node, epoch, nodes, out)?;
+            let answered = show_state(alloc, json, log, node, epoch, nodes, out)?;
             if !answered {
                 return Ok(false);
             }
@@ -117,6 +120,7 @@ fn show_states<N: Nodes, O: Sink>(
 /// Dials a node and writes what it answers. False where it is silent.
 fn show_answers<N: Nodes, O: Sink>(
     alloc: Global,
+    json: bool,
     log: LogId,
     node: NodeId,
     first: u32,
@@ -125,7 +129,7 @@ fn show_answers<N: Nodes, O: Sink>(
     out: &mut O,
 ) -> Result<bool, StatusStop>
     requires { last ≤ 2 ^ 32 - 2 }
-    ensures heard { IfOk result (Heard answers_text (N.tells nodes.old) (N.tells nodes.new) (N.silent nodes.new) log node first (last + 1 - first) (O.written out.old) (O.written out.new)) }
+    ensures heard { IfOk result (Heard (answers_text json) (N.tells nodes.old) (N.tells nodes.new) (N.silent nodes.new) log node first (last + 1 - first) (O.written out.old) (O.written out.new)) }
     ensures broken { IfOk result (λ whole. whole ≡ false → IsBroken (N.faults nodes.old) (N.faults nodes.new) (N.endings nodes.old) (N.endings nodes.new)) }
     ensures later { AreLater (N.faults nodes.old) (N.faults nodes.new) (N.endings nodes.old) (N.endings nodes.new) }
     ensures output { O.faults out.old ≤ O.faults out.new }
@@ -136,16 +140,17 @@ fn show_answers<N: Nodes, O: Sink>(
         Ok(()) => {}
         Err(_) => return Ok(false),
     }
-    let trim = match show_points(alloc, log, node, nodes, out)? {
+    let trim = match show_points(alloc, json, log, node, nodes, out)? {
         Some(trim) => trim,
         None => return Ok(false),
     };
-    show_states(alloc, log, node, trim, first, last, nodes, out)
+    show_states(alloc, json, log, node, trim, first, last, nodes, out)
 }
 
 /// Dials a node and writes what it says of a log. False where it is silent.
 fn show_node<N: Nodes, O: Sink>(
     alloc: Global,
+    json: bool,
     log: LogId,
     node: NodeId,
     first: u32,
@@ -154,24 +159,24 @@ fn show_node<N: Nodes, O: Sink>(
     out: &mut O,
 ) -> Result<bool, StatusStop>
     requires { last ≤ 2 ^ 32 - 2 }
-    ensures heard { IfOk result (Heard said_text (N.tells nodes.old) (N.tells nodes.new) (N.silent nodes.new) log node first (last + 1 - first) (O.written out.old) (O.written out.new)) }
+    ensures heard { IfOk result (Heard (said_text json) (N.tells nodes.old) (N.tells nodes.new) (N.silent nodes.new) log node first (last + 1 - first) (O.written out.old) (O.written out.new)) }
     ensures broken { IfOk result (λ whole. whole ≡ false → IsBroken (N.faults nodes.old) (N.faults nodes.new) (N.endings nodes.old) (N.endings nodes.new)) }
     ensures later { AreLater (N.faults nodes.old) (N.faults nodes.new) (N.endings nodes.old) (N.endings nodes.new) }
     ensures output { O.faults out.old ≤ O.faults out.new }
     ensures quiet { N.silent nodes.old ≡ true → N.silent nodes.new ≡ true }
     ensures cause { IfErr result (IsNodeStop (O.faults out.old) (O.faults out.new) (N.off nodes.new)) }
 {
-    if show_answers(alloc, log, node, first, last, nodes, out)? {
+    if show_answers(alloc, json, log, node, first, last, nodes, out)? {
         return Ok(true);
     }
     let mut line = Vec::new(alloc);
-    silent_line(&mut line, node)?;
+    silent_line(&mut line, json, node)?;
     write(out, &line)?;
     Ok(false)
 }
 
-/// Whether none was silent before, nor this one.
-fn both(whole: bool, answered: bool) -> bool
+/// Whether it was so of all before, and of this one.
+pub(crate) fn both(whole: bool, answered: bool) -> bool
     ensures { result ≡ (if answered then whole else false) }
 {
     if answered { whole } else { false }
@@ -180,6 +185,7 @@ fn both(whole: bool, answered: bool) -> bool
 /// Dials each node of a set, rising, and writes what it says of a log. False where one is silent.
 pub(crate) fn show_nodes<N: Nodes, O: Sink>(
     alloc: Global,
+    json: bool,
     set: &NodeSet,
     log: LogId,
     first: u32,
@@ -188,7 +194,7 @@ pub(crate) fn show_nodes<N: Nodes, O: Sink>(
     out: &mut O,
 ) -> Result<bool, StatusStop>
     requires { last ≤ 2 ^ 32 - 2 }
-    ensures heard { IfOk result (HeardAll (N.tells nodes.old) (N.tells nodes.new) (N.silent nodes.new) log first (last + 1 - first) (members set.now) (O.written out.old) (O.written out.new)) }
+    ensures heard { IfOk result (HeardAll json (N.tells nodes.old) (N.tells nodes.new) (N.silent nodes.new) log first (last + 1 - first) (members set.now) (O.written out.old) (O.written out.new)) }
     ensures broken { IfOk result (λ whole. whole ≡ false → IsBroken (N.faults nodes.old) (N.faults nodes.new) (N.endings nodes.old) (N.endings nodes.new)) }
     ensures later { AreLater (N.faults nodes.old) (N.faults nodes.new) (N.endings nodes.old) (N.endings nodes.new) }
     ensures output { O.faults out.old ≤ O.faults out.new }
@@ -200,7 +206,7 @@ pub(crate) fn show_nodes<N: Nodes, O: Sink>(
         let Some(node) = set.nth(place) else {
             unreachable!();
         };
-        let answered = show_node(alloc, log, node, first, last, nodes, out)?;
+        let answered = show_node(alloc, json, log, node, first, last, nodes, out)?;
         whole = both(whole, answered);
     }
     Ok(whole)

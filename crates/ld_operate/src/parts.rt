@@ -17,7 +17,7 @@ pub(crate) fn word(out: &mut Vec<u8>, word: &[u8]) -> Result<(), NoMemory>
 }
 
 /// Adds a decimal number.
-fn number(out: &mut Vec<u8>, number: u32) -> Result<(), NoMemory>
+pub(crate) fn number(out: &mut Vec<u8>, number: u32) -> Result<(), NoMemory>
     ensures { OnOk result (out.new.items ≡ out.old.items ++ decimal number) }
 {
     let mut buffer = Buffer::new();
@@ -26,7 +26,7 @@ fn number(out: &mut Vec<u8>, number: u32) -> Result<(), NoMemory>
 }
 
 /// Adds a log sequence number.
-fn lsn(out: &mut Vec<u8>, lsn: Lsn) -> Result<(), NoMemory>
+pub(crate) fn lsn(out: &mut Vec<u8>, lsn: Lsn) -> Result<(), NoMemory>
     ensures { OnOk result (out.new.items ≡ out.old.items ++ lsn_text lsn) }
 {
     let mut text = [0u8; 22];

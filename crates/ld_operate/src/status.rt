@@ -26,8 +26,8 @@ fn first_of_last(count: u32, last: u32) -> u32
 /// Writes what a register and its nodes say of a log: the lines of the register for the last epochs, so many of them, 1 to
 /// 1,000,000; then for each node of the configuration, rising, a line of its trim point and its released number, and one for each
 /// of those epochs that it hasn't trimmed whole. Each node is dialed once, and a line is written as soon as it was answered. Where a
-/// call of a node fails, or it has ended, its last line says that it is silent, and the next node is asked. True where none
-/// was silent.
+/// call of a node fails, or it has ended, its last line says that it is silent, and the next node is asked. With `json` each line
+/// is an object, which tells the same. True where none was silent.
 ///
 /// It ends with `BadFrame` where what a node sent begins no frame, and else as `register_lines` does.
 pub fn status_lines<G: Register, N: Nodes, O: Sink>(
@@ -35,6 +35,7 @@ pub fn status_lines<G: Register, N: Nodes, O: Sink>(
     config: &Config,
     log: LogId,
     epochs: u32,
+    json: bool,
     reg: &mut G,
     nodes: &mut N,
     out: &mut O,
@@ -42,7 +43,7 @@ pub fn status_lines<G: Register, N: Nodes, O: Sink>(
     requires { 1 ≤ epochs }
     // What is written is the text of what the register holds, and of what each node answered. Where the nodes tell what stands
     // there, and of a log of the configuration, those are the answers of the written machine's nodes, and they stand as before.
-    ensures status { IfOk result (HasStatus (G.holds reg.old) (N.tells nodes.old) (N.tells nodes.new) (N.silent nodes.new) config.now log epochs (O.written out.old) (O.written out.new)) }
+    ensures status { IfOk result (HasStatus json (G.holds reg.old) (N.tells nodes.old) (N.tells nodes.new) (N.silent nodes.new) config.now log epochs (O.written out.old) (O.written out.new)) }
     // A node is silent only where a call of it failed, or it had ended.
     ensures broken { IfOk result (λ whole. whole ≡ false → IsBroken (N.faults nodes.old) (N.faults nodes.new) (N.endings nodes.old) (N.endings nodes.new)) }
     // Why it ends with an error.
@@ -58,8 +59,8 @@ pub fn status_lines<G: Register, N: Nodes, O: Sink>(
     ensures later { AreLater (N.faults nodes.old) (N.faults nodes.new) (N.endings nodes.old) (N.endings nodes.new) }
     ensures output { O.faults out.old ≤ O.faults out.new }
 {
-    let last = show_log(alloc, log, reg, out)?;
+    let last = show_log(alloc, json, log, reg, out)?;
     let first = first_of_last(epochs, last);
-    show_epochs(alloc, log, first, last, reg, out)?;
-    show_nodes(alloc, &config.nodes, log, first, last, nodes, out)
+    show_epochs(alloc, json, log, first, last, reg, out)?;
+    show_nodes(alloc, json, &config.nodes, log, first, last, nodes, out)
 }

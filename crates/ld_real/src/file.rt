@@ -54,8 +54,18 @@ impl<'a, R: Files<File = F>, F: SharedFile> FileDisk<'a, R, F> {
         Ok(FileDisk::over(rt, path, Sharing::InTurn, Some(name)))
     }
 
-    /// The same, over a file that is there: where it isn't, each call fails and makes none.
-    pub(crate) fn in_turn(rt: &'a R, path: &'a str) -> FileDisk<'a, R, F>
+    /// A disk over the file at this path, which is there: where it isn't, each call fails and makes none. It isn't opened yet,
+    /// and no call has failed yet. As long as the disk lives no other process opens the file so: the first call fails where
+    /// one has.
+    pub fn there(rt: &'a R, path: &'a str) -> FileDisk<'a, R, F>
+        ensures path { result.path.now ≡ path.now }
+        ensures faults { result.faults ≡ 0 }
+    {
+        FileDisk::over(rt, path, Sharing::Alone, None)
+    }
+
+    /// The same, but each opening waits until the other processes that open the file in turn have closed it.
+    pub fn in_turn(rt: &'a R, path: &'a str) -> FileDisk<'a, R, F>
         ensures path { result.path.now ≡ path.now }
         ensures faults { result.faults ≡ 0 }
     {

@@ -9,11 +9,11 @@ use Rattle.ld_past.specs.Events.{Event}
 use Rattle.ld_msg.specs.declared.msg.Msg.{Msg}
 use Rattle.ld_msg.specs.Bounds.{IsMessage}
 use Rattle.ld_wire.specs.Frames.{frame_of}
-use Rattle.ld_wire.specs.Streams.{frames_of, AreMessages}
-use Rattle.ld_crowd.specs.Calls.{said, read_of, count_of}
+use Rattle.ld_wire.specs.Streams.{frames_of}
+use Rattle.ld_crowd.specs.Calls.{said, read_of}
 use Rattle.ld_crowd.specs.Course.{Taken, of, frames, after_taken}
 use Rattle.ld_crowd.specs.Serving.{GoesOn, put, plain, turns_of, AreSteps}
-use Rattle.ld_crowd.proofs.Steps.{alike, take_all_of, leaves, put_same, put_other, steps_more, steps_after}
+use Rattle.ld_crowd.proofs.Steps.{take_all_of, leaves, put_same, put_other, steps_more}
 use Rattle.ld_crowd.proofs.Talks.{same_self, not_same, after_append}
 use Rattle.ld_op.specs.Plain.{Plain}
 use Rattle.ld_store.specs.Ops.{StandsFor, StandsForEither}
@@ -21,7 +21,7 @@ use Rattle.ld_layout.specs.Layout.{Layout}
 use Rattle.ld_node.specs.Known.{Known}
 use Rattle.ld_node.specs.Changes.{IsPast}
 use Rattle.ld_serve.specs.Serving.{State, after, answers, done}
-use Rattle.ld_serve.specs.Talking.{Given, AreGiven, IsServing, AreServed, IsLess, BeginsNone}
+use Rattle.ld_serve.specs.Talking.{Given, AreGiven, IsServing, IsLess, BeginsNone}
 use Rattle.ld_serve.specs.Crowd.{AreNextOf, IsBehindSome}
 use Rattle.ld_serve.specs.declared.stop.Stop.{Stop}
 use Rattle.ld_serve.specs.declared.group.Answer.{Answer}

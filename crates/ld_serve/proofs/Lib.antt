@@ -12,3 +12,4 @@ pub mod Groups
 pub mod Settling
 pub mod CrowdStops
 pub mod Gatherings
+pub mod Telling

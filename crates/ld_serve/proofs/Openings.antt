@@ -13,7 +13,7 @@ use Rattle.ld_op.specs.Plain.{Plain, unformatted, apply}
 use Rattle.ld_op.specs.Records as records
 use Rattle.ld_layout.specs.Layout.{Layout, Segment, new_layout}
 use Rattle.ld_segment.specs.Ops.{bodies_of, place_behind, op_count, ArePlaced}
-use Rattle.ld_segment.specs.Lies.{Slots, LiesAs, IsIndexed, head_of, written}
+use Rattle.ld_segment.specs.Lies.{Slots, IsIndexed, head_of, written}
 use Rattle.ld_segment.proofs.Bodies.{blank_is}
 use Rattle.ld_segment.proofs.Kept.{some_ops}
 use Rattle.ld_segment.proofs.Before as journals
@@ -57,11 +57,11 @@ blank_shows (Some bytes) seen_now either blank = ⊎_elim (λ same. same) (λ wa
 
 -- they lie as a new journal
 new_laid : (y : Layout) (z : Slots) (bytes : List ℕ) (a : Option Segment) (vs : List Record) (opening : Version) → (y.ops == 0) ≡ true → ArePlaced versions.Blank vs opening → IsIndexed opening (written y) y z a vs bytes
-    → y.ops ≡ op_count vs → y.end ≡ place_behind vs → y.later ≡ a → y ≡ new_layout
-new_laid y z bytes None [] opening blank placed is ops end later = λ i. record { ops = ops i; end = end i; later = later i; index = is.1 i }
-new_laid y z bytes None (v ∷ vs) opening blank placed is ops end later =
+    → y.ops ≡ op_count vs → y.end ≡ place_behind vs → y.later ≡ a → y.grows ≡ false → y ≡ new_layout
+new_laid y z bytes None [] opening blank placed is ops end later still = λ i. record { ops = ops i; end = end i; later = later i; index = is.1 i; grows = still i }
+new_laid y z bytes None (v ∷ vs) opening blank placed is ops end later still =
     let e : true ≡ false = sym (ap (λ b. records.is_blank (cond b versions.Blank versions.Second)) blank) ∙ ap records.is_blank is.0 ∙ blank_is (v ∷ vs) opening placed.version_is in absurd (cc e)
-new_laid y z bytes (Some g) vs opening blank placed is ops end later = let e : true ≡ false = sym blank ∙ some_ops opening y z g y.index bytes is in absurd (cc e)
+new_laid y z bytes (Some g) vs opening blank placed is ops end later still = let e : true ≡ false = sym blank ∙ some_ops opening y z g y.index bytes is in absurd (cc e)
 
 -- ---- a load that is refused ----
 
@@ -129,6 +129,10 @@ left_by_load holds id format (Some shown) before left Leaves each leaves = λ c 
 
 -- ---- what the node holds then, where the disk has shown some bytes ----
 
+pub held_too : {A B : Type 0} (seen : Option (List ℕ)) → (A → B) → IfSome seen (IfStands (λ _. A)) → IfSome seen (IfStands (λ _. B))
+held_too None f held = tt
+held_too (Some bytes) f held = λ p stands. f (held p stands)
+
 module _ {D : Type 0} {g : Ghosts D} (seen : D → Option (List ℕ)) (may_leave : D → List ℕ → Type 0) (holds : Contents → Type 0) (id : ℕ) (format : Bool) where
   pub blank_opens : (o : Option (List ℕ)) (node : Node D g) → is_blank node ≡ true → IfSome o (IsOpened seen may_leave node) → IfSome o IsBlank
   blank_opens None node blank opened = tt
@@ -140,18 +144,18 @@ module _ {D : Type 0} {g : Ghosts D} (seen : D → Option (List ℕ)) (may_leave
   blank_holds : (bytes : List ℕ) (node : Node D g) → is_blank node ≡ true → IsOpened seen may_leave node bytes → Holds seen may_leave node
   blank_holds bytes node blank opened = opened.holds unformatted (blank_stands bytes (opened.blank blank))
 
-  blank_layout : (node : Node D g) → is_blank node ≡ true → Holds seen may_leave node → layout_of node ≡ new_layout
-  blank_layout node blank held =
+  blank_layout : (node : Node D g) → is_blank node ≡ true → (layout_of node).grows ≡ false → Holds seen may_leave node → layout_of node ≡ new_layout
+  blank_layout node blank still held =
       let y = layout_of node in
-      new_laid y (slots_of node) held.bytes y.later held.lies.records held.lies.first (sym held.blank ∙ blank) held.lies.placed held.lies.index_is held.lies.ops_is held.lies.end_is refl
+      new_laid y (slots_of node) held.bytes y.later held.lies.records held.lies.first (sym held.blank ∙ blank) held.lies.placed held.lies.index_is held.lies.ops_is held.lies.end_is refl still
 
-  pub blank_full : (o : Option (List ℕ)) (old : Node D g) → is_blank old ≡ true → IfSome o (IsOpened seen may_leave old)
+  pub blank_full : (o : Option (List ℕ)) (old : Node D g) → is_blank old ≡ true → (layout_of old).grows ≡ false → IfSome o (IsOpened seen may_leave old)
       → (Holds seen may_leave old → (c : Contents) → holds c → (given : Drawn) × (answered given ≡ drawn c id) × IsPast (layout_of old) (Some (format_of given)))
       → IfSome o (λ bytes. (c : Contents) → holds c → (given : Drawn) × (answered given ≡ drawn c id) × IsPast new_layout (Some (format_of given)))
-  blank_full None old blank opened full = tt
-  blank_full (Some bytes) old blank opened full =
+  blank_full None old blank still opened full = tt
+  blank_full (Some bytes) old blank still opened full =
       let held = blank_holds bytes old blank opened in
-      subst (λ (y : Layout). (c : Contents) → holds c → (given : Drawn) × (answered given ≡ drawn c id) × IsPast y (Some (format_of given))) (blank_layout old blank held) (full held)
+      subst (λ (y : Layout). (c : Contents) → holds c → (given : Drawn) × (answered given ≡ drawn c id) × IsPast y (Some (format_of given))) (blank_layout old blank still held) (full held)
 
   -- a node that isn't blank represents what its disk represented
   pub opens_found : (holds_now : Contents → Type 0) (o : Option (List ℕ)) (node : Node D g) → is_blank node ≡ false → IfSome o (IsOpened seen may_leave node)

@@ -1,6 +1,6 @@
 -- A group of frames once it is settled, or where it couldn't be.
 use Rattle.std.proofs.Common.{◌≡◌, ◌≤◌, ◌+◌, ◌⊎◌, ℕ, zero, suc, List, [], ◌∷◌, ◌++◌, length, take, drop, refl, sym, ap, ◌∙◌, subst, arith, inl, inr, ⊎_elim, append-nil, append_assoc}
-use Rattle.std.specs.Prelude.{⊤, Option, None, Some}
+use Rattle.std.specs.Prelude.{⊤, Option, Some}
 use Rattle.ld_past.specs.Events.{Event}
 use Rattle.ld_msg.specs.declared.msg.Msg.{Msg}
 use Rattle.ld_op.specs.Plain.{Plain}
@@ -13,21 +13,21 @@ use Rattle.ld_crowd.specs.Serving.{GoesOn, put, plain, turns_of, AreSteps}
 use Rattle.ld_crowd.proofs.Steps.{alike}
 use Rattle.ld_crowd.proofs.Talks.{after_append}
 use Rattle.ld_layout.specs.Layout.{Layout}
-use Rattle.ld_store.specs.Ops.{StandsFor, StandsForEither}
+use Rattle.ld_store.specs.Ops.{StandsFor}
 use Rattle.ld_node.specs.Known.{Known}
 use Rattle.ld_node.specs.Changes.{IsPast}
 use Rattle.ld_serve.specs.declared.stop.Stop.{Stop}
 use Rattle.ld_serve.specs.declared.stop.Stop.TheVariants.{NoMemory, Disk}
 use Rattle.ld_serve.specs.Serving.{State, after, answers, done, PastLimit}
 use Rattle.ld_serve.specs.Talking.{Given, AreGiven, IsServing, AreServed, IsLess, BeginsNone}
-use Rattle.ld_serve.specs.Crowd.{Advances, Halts, Break, Between, At, Among, IsNext, IsNextOf, IsBreak, IsBehindSome, IsRefusedStep}
+use Rattle.ld_serve.specs.Crowd.{Advances, Halts, At, Among, IsNext}
 use Rattle.ld_serve.specs.declared.group.Ending.{Ending}
 use Rattle.ld_serve.specs.declared.group.Ending.TheVariants as ends
 use Rattle.ld_serve.specs.Stops.{IsNodeStop}
 use Rattle.ld_serve.specs.Group.{answers_to, told, before, Gathers, IsLost, IsRefusal, IsOff, IsStop, IsUnsettled, Ends}
 use Rattle.ld_serve.proofs.Looks.{Held, served_so, put_off}
 use Rattle.ld_serve.proofs.CrowdStops.{less_held}
-use Rattle.ld_serve.proofs.Groups.{plain_append, answers_append, answers_length, are_front, front_said, lost_of, told_longer, turns_told, turns_more, steps_join, steps_front, are_next}
+use Rattle.ld_serve.proofs.Groups.{plain_append, answers_length, are_front, front_said, lost_of, told_longer, turns_told, turns_more, steps_join, steps_front, are_next}
 
 take_all : {X : Type 0} (xs : List X) → take (length xs) xs ≡ xs
 take_all [] = refl

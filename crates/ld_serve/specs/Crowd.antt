@@ -1,5 +1,5 @@
 -- A node that serves a crowd: each frame of a peer is a step, and where it stops.
-use Rattle.std.specs.Prelude.{◌≡◌, ◌≤◌, ◌+◌, ◌⊎◌, ◌++◌, ⊤, ℕ, List, ◌∷◌, true, Option}
+use Rattle.std.specs.Prelude.{◌≡◌, ◌≤◌, ◌+◌, ◌⊎◌, ◌++◌, ⊤, ℕ, List, true, Option}
 use Rattle.ld_msg.specs.declared.msg.Msg.{Msg}
 use Rattle.ld_past.specs.Events.{Event}
 use Rattle.ld_wire.specs.Frames.{frame_of}

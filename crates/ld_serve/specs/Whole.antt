@@ -4,6 +4,7 @@ use Rattle.ld_msg.specs.Register.{Register as Contents}
 use Rattle.ld_op.specs.Plain.{Plain}
 use Rattle.ld_store.specs.Ops.{StandsFor, IfStands}
 use Rattle.ld_store.specs.Loads.{LeftOrMarked}
+use Rattle.ld_past.specs.Events.{Event}
 use Rattle.ld_link.specs.Peers.{Peers}
 use Rattle.ld_node.specs.Known.{Known}
 use Rattle.ld_serve.specs.declared.stop.Stop.{Stop}
@@ -12,6 +13,8 @@ use Rattle.ld_serve.specs.Course.{IsServed, IsStopped}
 use Rattle.ld_serve.specs.Heard.{Heard, HeardUntil}
 use Rattle.ld_serve.specs.Opening.{IsOpening, IsOpeningStop, ShowsSame, LeftByFormat, HoldsDrawOrNot}
 use Rattle.ld_serve.specs.Serving.{State, after, answers, IsCut}
+use Rattle.ld_serve.specs.Talking.{Given}
+use Rattle.ld_serve.specs.Told.{Ends, EndsAt, Halt, AreSteps, IsCutAt}
 
 -- a node is opened in this state, with nothing released
 abbrev pub at_first : Plain → State
@@ -34,6 +37,22 @@ module _ (seen : List ℕ) (left : List ℕ → Type 0) (holds holds_now : Conte
     pub last : State
     pub course : IsStopped (after id known) (answers id known) (IsCut id known left stop) start (at_first first) now last
 
+  -- the node was opened, and took these frames, with these answers
+  pub record TookOn (taken : List Given) : Type 0 where
+    pub first : Plain
+    pub opened : IsOpening holds holds_now id format first seen
+    pub last : State
+    pub steps : AreSteps (after id known) (answers id known) (at_first first) taken last
+    pub stands : (bytes : List ℕ) → left bytes → StandsFor last.plain bytes
+
+  -- and stopped behind them
+  pub record TookUntilOn (taken : List Given) (halt : Halt) (stop : Stop) : Type 0 where
+    pub first : Plain
+    pub opened : IsOpening holds holds_now id format first seen
+    pub last : State
+    pub steps : AreSteps (after id known) (answers id known) (at_first first) taken last
+    pub cut : IsCutAt id known left stop last halt
+
 -- of a disk that may have shown bytes
 module _ (seen : Option (List ℕ)) (left : List ℕ → Type 0) (holds holds_now : Contents → Type 0) (id : ℕ) (known : Known) (format : Bool) where
   -- the node was opened and served, and where the disk showed bytes that represent a plain state, its answers are those of that
@@ -45,6 +64,18 @@ module _ (seen : Option (List ℕ)) (left : List ℕ → Type 0) (holds holds_no
   pub record HasStopped (start : Peers) (now : Option Peers) (stop : Stop) : Type 0 where
     pub heard : HeardUntil start now stop
     pub exact : IfSome seen (IfStands (λ bytes. StoppedOn bytes left holds holds_now id known format start now stop))
+
+  -- the same by the calls of the link before and now, which every link tells
+  pub record HasTold (old new : List Event) (turns : ℕ) : Type 0 where
+    pub taken : List Given
+    pub ends : Ends old new taken turns
+    pub exact : IfSome seen (IfStands (λ bytes. TookOn bytes left holds holds_now id known format taken))
+
+  pub record HasToldUntil (old new : List Event) (turns : ℕ) (stop : Stop) : Type 0 where
+    pub taken : List Given
+    pub halt : Halt
+    pub ends : EndsAt stop halt old new taken turns
+    pub exact : IfSome seen (IfStands (λ bytes. TookUntilOn bytes left holds holds_now id known format taken halt stop))
 
 -- of a disk, its counts of faults, the bytes that it showed and shows, and what might be left of it and may be now; and of a register
 module _ (disk_before disk_now : ℕ) (seen seen_now : Option (List ℕ)) (before left : List ℕ → Type 0) (register_before register_now : ℕ) (Told : Type 0) (holds holds_now : Contents → Type 0) (damaged : ℕ → Type 0) (id : ℕ) (format : Bool) where

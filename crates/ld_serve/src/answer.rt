@@ -2,6 +2,7 @@
 ghost use Rattle.std.specs.Prelude.{◌≡◌, IfSome, IfOk, IfErr, MatchResult};
 ghost use Rattle.ld_wire.specs.Streams.{frames_of, AreMessages};
 ghost use Rattle.ld_framed.specs.Hearing.{Says, SaysPart};
+ghost use Rattle.ld_framed.specs.Writes.{Writes, WritesPart};
 ghost use Rattle.ld_serve.specs.Stops.{IsUnsent, LinkCounts};
 
 use crate::Stop;
@@ -31,6 +32,7 @@ pub(crate) fn frames(alloc: Global, messages: &[Msg]) -> Result<Vec<u8>, NoMemor
 pub(crate) fn answer<L: Link>(alloc: Global, link: &mut L, messages: &[Msg]) -> Result<(), Stop>
     requires { AreMessages messages.now }
     ensures written { IfSome (L.peers link.old) (λ old. MatchResult result (λ _. Says old (L.peers link.new) (frames_of messages.now)) (λ _. SaysPart old (L.peers link.new) (frames_of messages.now))) }
+    ensures did { MatchResult result (λ _. Writes (L.did link.old) (L.did link.new) (frames_of messages.now)) (λ _. WritesPart (L.did link.old) (L.did link.new) (frames_of messages.now)) }
     ensures cause { IfErr result IsUnsent }
     ensures counts { MatchResult result (λ _. L.faults link.new ≡ L.faults link.old) (LinkCounts (L.faults link.old) (L.faults link.new)) }
 {

@@ -2,6 +2,7 @@
 ghost use Rattle.std.specs.Prelude.{◌≡◌, ◌<◌, List, ℕ, length, None, IfSome, IfOk, IfErr, OnOk, MatchResult};
 ghost use Rattle.ld_msg.specs.Bounds.{IsMessage};
 ghost use Rattle.ld_framed.specs.Hearing.{HearsNext, HearsSome};
+ghost use Rattle.ld_framed.specs.Reads.{ReadsNext, ReadsSome};
 ghost use Rattle.ld_framed.specs.Reading as frames;
 ghost use Rattle.ld_serve.specs.Stops.{IsUnread, LinkCounts};
 
@@ -40,6 +41,9 @@ pub(crate) fn next_frame<L: Link>(
     ensures heard { IfSome (L.peers link.old) (λ old. MatchResult result
         (HearsNext old (L.peers link.new) decoder.old.bytes decoder.new)
         (λ stop. HearsSome old (L.peers link.new) decoder.old.bytes (λ held. IsUnread held stop))) }
+    ensures waiting { MatchResult result
+        (ReadsNext (L.did link.old) (L.did link.new) decoder.old.bytes decoder.new.bytes)
+        (λ stop. ReadsSome (L.did link.old) (L.did link.new) decoder.old.bytes (λ held. IsUnread held stop)) }
     ensures cause { IfErr result (λ stop. (held : List ℕ) × IsUnread held stop) }
     ensures message { IfOk result (λ next. IfSome next IsMessage) }
     ensures fault { OnOk result (decoder.new.fault ≡ None) }

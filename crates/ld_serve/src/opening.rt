@@ -82,7 +82,7 @@ fn format_stop(fault: NodeFault) -> Stop
 /// Opens the node of this number on its disk: the disk is loaded, which marks a store of the first version as one of the
 /// second, and where it is blank and `format` is asked for, it is formatted under a generation that the register draws
 /// for the node: that draw is all that changes there. Nothing is released yet. Without `format`, and where the disk isn't
-/// blank, the register isn't called.
+/// blank, the register isn't called. The room of each segment that the node begins grows with its Base.
 ///
 /// A refusal hands the disk back: `Disk` where a call of it failed, `Damaged(Store, place)` as a node's load says,
 /// `Full(Store)` where a mark, or the segment that it needs, would make the store longer than 2^40 bytes, `Blank` where no
@@ -123,7 +123,7 @@ pub fn open<D: Disk, G: Register>(
         Err((disk, fault)) => return Err((disk, load_stop(fault))),
     };
     if !node.is_blank() {
-        return Ok(node);
+        return Ok(node.growing());
     }
     if !format {
         return Err((node.into_disk(), Stop::Blank));
@@ -131,5 +131,5 @@ pub fn open<D: Disk, G: Register>(
     if let Err(fault) = node.format(alloc, reg) {
         return Err((node.into_disk(), format_stop(fault)));
     }
-    Ok(node)
+    Ok(node.growing())
 }

@@ -1,5 +1,6 @@
 // Peers, one after the other.
 ghost use Rattle.std.specs.Prelude.{◌≡◌, ℕ, List, Bool, None, Some, false, IfErr, OnOk, MatchResult, MatchBool};
+ghost use Rattle.ld_past.specs.Events.{Event};
 ghost use Rattle.ld_link.specs.Peers.{Peers};
 ghost use Rattle.ld_node.specs.Known.{Known};
 ghost use Rattle.ld_node.specs.Node.{id_of, known_of, disk_of, must_load, is_blank, Holds};
@@ -8,6 +9,8 @@ ghost use Rattle.ld_msg.specs.declared.msg.Msg.{Msg as Said};
 ghost use Rattle.ld_serve.specs.Heard.{first_given, after_first, Heard, HeardUntil};
 ghost use Rattle.ld_serve.specs.Serving.{State, state_of, after, answers, IsAt, IsCut};
 ghost use Rattle.ld_serve.specs.Stops.{IsLinkStop, IsServingStop, LinkCounts, DiskCounts};
+ghost use Rattle.ld_serve.specs.Talking.{Given};
+ghost use Rattle.ld_serve.specs.Told.{Serves, held_of, TellsMeeting, IsTold, IsToldUntil};
 
 use crate::Stop;
 use crate::turn::turn;
@@ -36,6 +39,7 @@ fn meet<L: Link>(
         → MatchResult result
         (λ there. MatchBool there (WithPeer after_first first_given start all (L.peers link.new) decoder.new.bytes more turns) (NoMore after_first first_given start all (L.peers link.new) more turns))
         (λ _. BetweenPeers after_first first_given start all (L.peers link.new) more turns) }
+    ensures told { (old : List Event) (taken : List Given) (turns : ℕ) → Serves old taken (L.did link.old) (held_of is_there decoder.old.bytes) turns → TellsMeeting old taken turns (L.did link.new) decoder.new.bytes result }
     ensures stops { IfErr result IsLinkStop }
     ensures counts { MatchResult result (λ _. L.faults link.new ≡ L.faults link.old) (LinkCounts (L.faults link.old) (L.faults link.new)) }
 {
@@ -85,6 +89,14 @@ pub fn serve_peers<D: Disk, L: Link>(
     ensures stopped { (start : Peers) → L.peers link.old ≡ Some start → Holds D.seen D.may_leave node.old
         → IfErr result (λ stop. (last : State) × IsAt last stop node.new × IsStopped (after (id_of node.old) (known_of node.old)) (answers (id_of node.old) (known_of node.old))
         (IsCut (id_of node.old) (known_of node.old) (D.may_leave (disk_of node.new)) stop) start (state_of node.old) (L.peers link.new) last) }
+
+    // The same of every link, as each tells its calls: each frame was read while no whole one was held, and the frames of its
+    // answers were written, before the next read. Each peer but the present one was read to its end, when less than a frame
+    // was left. Fewer turns are taken only where the last call says that there is no next peer. Where the store holds what
+    // the disk tells, each frame is one step of the node.
+    ensures told { MatchResult result
+        (λ _. IsTold (id_of node.old) (known_of node.old) (Holds D.seen D.may_leave node.old) (L.did link.old) (L.did link.new) (state_of node.old) (state_of node.new) turns)
+        (IsToldUntil (id_of node.old) (known_of node.old) (Holds D.seen D.may_leave node.old) (D.may_leave (disk_of node.new)) (L.did link.old) (L.did link.new) (state_of node.old) (state_of node.new) turns) }
 
     // After the turns the disk represents the node's plain state.
     ensures holds { Holds D.seen D.may_leave node.old → OnOk result (Holds D.seen D.may_leave node.new) }

@@ -3,7 +3,7 @@ ghost use Rattle.std.specs.Prelude.{◌≡◌, ◌⊎◌, ℕ, List, Some, IfErr
 ghost use Rattle.ld_link.specs.Peers.{Peers};
 ghost use Rattle.ld_register.specs.Calls.{after_draw, ChangedOrNot};
 ghost use Rattle.ld_node.specs.Known.{known_in};
-ghost use Rattle.ld_serve.specs.Whole.{HasServed, HasStopped, IsNotOpened};
+ghost use Rattle.ld_serve.specs.Whole.{HasServed, HasStopped, HasTold, HasToldUntil, IsNotOpened};
 ghost use Rattle.ld_serve.specs.Opening.{Stands, IsBlank};
 ghost use Rattle.ld_serve.specs.Complete.{AreSpoken, MayOpen, IsFaultOrLimit};
 ghost use Rattle.ld_serve.specs.Stops.{IsServingStop, LinkCounts, DiskCounts, RegisterCounts};
@@ -45,6 +45,11 @@ fn serve_on<D: Disk, G: Register, L: Link>(
         → IfErr result.1 (λ stop. IsNotOpened (D.faults disk) (D.faults result.0) (D.seen disk) (D.seen result.0) (D.may_leave disk) (D.may_leave result.0)
         (G.faults reg.old) (G.faults reg.new) (G.told reg.old) (G.holds reg.old) (G.holds reg.new) (G.damaged reg.old) id format link.old link.new stop
         ⊎ HasStopped (D.seen disk) (D.may_leave result.0) (G.holds reg.old) (G.holds reg.new) id (known_in config.now) format start (L.peers link.new) stop) }
+    ensures told { MatchResult result.1
+        (λ _. HasTold (D.seen disk) (D.may_leave result.0) (G.holds reg.old) (G.holds reg.new) id (known_in config.now) format (L.did link.old) (L.did link.new) turns)
+        (λ stop. IsNotOpened (D.faults disk) (D.faults result.0) (D.seen disk) (D.seen result.0) (D.may_leave disk) (D.may_leave result.0)
+        (G.faults reg.old) (G.faults reg.new) (G.told reg.old) (G.holds reg.old) (G.holds reg.new) (G.damaged reg.old) id format link.old link.new stop
+        ⊎ HasToldUntil (D.seen disk) (D.may_leave result.0) (G.holds reg.old) (G.holds reg.new) id (known_in config.now) format (L.did link.old) (L.did link.new) turns stop) }
     ensures opening { IfErr result.1 (λ stop. IsNotOpened (D.faults disk) (D.faults result.0) (D.seen disk) (D.seen result.0) (D.may_leave disk) (D.may_leave result.0)
         (G.faults reg.old) (G.faults reg.new) (G.told reg.old) (G.holds reg.old) (G.holds reg.new) (G.damaged reg.old) id format link.old link.new stop
         ⊎ IsServingStop (Stands (D.seen disk)) stop) }
@@ -105,6 +110,15 @@ pub fn serve<D: Disk, G: Register, L: Link>(
         → IfErr result (λ stop. IsNotOpened (D.faults disk.old) (D.faults disk.new) (D.seen disk.old) (D.seen disk.new) (D.may_leave disk.old) (D.may_leave disk.new)
         (G.faults reg.old) (G.faults reg.new) (G.told reg.old) (G.holds reg.old) (G.holds reg.new) (G.damaged reg.old) id format link.old link.new stop
         ⊎ HasStopped (D.seen disk.old) (D.may_leave disk.new) (G.holds reg.old) (G.holds reg.new) id (known_in config.now) format start (L.peers link.new) stop) }
+
+    // The same of every link, as each tells its calls: each frame was read while no whole one was held, and the frames of its
+    // answers were written, before the next read. Each peer but the present one was read to its end, when less than a frame
+    // was left. Fewer turns are taken only where the last call says that there is no next peer, or where it stopped.
+    ensures told { MatchResult result
+        (λ _. HasTold (D.seen disk.old) (D.may_leave disk.new) (G.holds reg.old) (G.holds reg.new) id (known_in config.now) format (L.did link.old) (L.did link.new) turns)
+        (λ stop. IsNotOpened (D.faults disk.old) (D.faults disk.new) (D.seen disk.old) (D.seen disk.new) (D.may_leave disk.old) (D.may_leave disk.new)
+        (G.faults reg.old) (G.faults reg.new) (G.told reg.old) (G.holds reg.old) (G.holds reg.new) (G.damaged reg.old) id format link.old link.new stop
+        ⊎ HasToldUntil (D.seen disk.old) (D.may_leave disk.new) (G.holds reg.old) (G.holds reg.new) id (known_in config.now) format (L.did link.old) (L.did link.new) turns stop) }
 
     // Whatever the link tells: what no serving node stops with comes before the link is called, and has its cause.
     ensures opening { IfErr result (λ stop. IsNotOpened (D.faults disk.old) (D.faults disk.new) (D.seen disk.old) (D.seen disk.new) (D.may_leave disk.old) (D.may_leave disk.new)

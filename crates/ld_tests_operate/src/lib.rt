@@ -7,3 +7,5 @@ mod filling;
 mod registers;
 #[cfg(test)]
 mod status;
+#[cfg(test)]
+mod trims;

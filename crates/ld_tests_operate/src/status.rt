@@ -29,6 +29,19 @@ node 3 epoch 4 lost 2
 node 3 epoch 5 lost 2
 ";
 
+/// The same as JSON.
+const OF_TWO_AS_JSON: &[u8] = br#"{"log":1,"epoch":5,"closed":4,"swaps":1}
+{"epoch":4,"set":[1,3,4],"r":2,"extras":0,"closed":"e4n1","by":5,"good":0,"trim":"e0n0","loss":false}
+{"epoch":5,"set":[1,2,3],"r":2,"extras":0,"closed":null}
+{"node":1,"trim":"e0n0","released":"e5n0"}
+{"node":1,"epoch":4,"state":"clean","end":"e4n1"}
+{"node":1,"epoch":5,"state":"open"}
+{"node":2,"state":"silent"}
+{"node":3,"trim":"e0n0","released":"e0n0"}
+{"node":3,"epoch":4,"state":"lost","generation":2}
+{"node":3,"epoch":5,"state":"lost","generation":2}
+"#;
+
 /// Of the last epoch, where only node 1 belongs to the configuration, and has trimmed the epochs before.
 const OF_ONE: &[u8] = b"log 1 epoch 5 closed 4 swaps 1
 epoch 5 set 1,2,3 r 2 extras 0 open
@@ -36,7 +49,7 @@ node 1 trim e5n0 released e5n0
 node 1 epoch 5 open
 ";
 
-fn config(alloc: Global, text: &[u8]) -> Result<Config, NoMemory> {
+pub(crate) fn config(alloc: Global, text: &[u8]) -> Result<Config, NoMemory> {
     match Config::read(alloc, text) {
         Ok(config) => Ok(config),
         Err(_) => Err(NoMemory),
@@ -113,7 +126,7 @@ fn tell(alloc: Global, hosts: &mut Hosts, trims: bool) -> Result<(), NoMemory> {
 }
 
 /// Three nodes of a configuration, and a register that is filled.
-fn three<G: Register>(alloc: Global, reg: &mut G) -> Result<NodeLinks, NoMemory> {
+pub(crate) fn three<G: Register>(alloc: Global, reg: &mut G) -> Result<NodeLinks, NoMemory> {
     let config = config(
         alloc,
         br#"{"nodes":[1,2,3],"logs":[{"id":1,"set":[1,2,3],"r":2}]}"#,
@@ -128,7 +141,7 @@ fn three<G: Register>(alloc: Global, reg: &mut G) -> Result<NodeLinks, NoMemory>
 }
 
 /// One node, and a register that is filled.
-fn one<G: Register>(alloc: Global, reg: &mut G) -> Result<NodeLinks, NoMemory> {
+pub(crate) fn one<G: Register>(alloc: Global, reg: &mut G) -> Result<NodeLinks, NoMemory> {
     let config = config(alloc, br#"{"nodes":[1],"logs":[{"id":1,"set":[1],"r":1}]}"#)?;
     let mut hosts = Hosts::new(alloc, &config)?;
     format(alloc, 1, &config, &mut hosts, reg)?;
@@ -142,18 +155,20 @@ fn status<G: Register, N: Nodes>(
     alloc: Global,
     nodes_text: &[u8],
     epochs: u32,
+    json: bool,
     reg: &mut G,
     nodes: &mut N,
     out: &mut MemSink,
 ) -> Result<Result<bool, StatusStop>, NoMemory> {
     let epochs = if epochs == 0 { 1 } else { epochs };
     let config = config(alloc, nodes_text)?;
-    Ok(status_lines(alloc, &config, log_one()?, epochs, reg, nodes, out))
+    Ok(status_lines(alloc, &config, log_one()?, epochs, json, reg, nodes, out))
 }
 
 /// How the status of three nodes ends where the write of this number fails, and whether these bytes are written.
 fn of_three(
     alloc: Global,
+    json: bool,
     fails: u64,
     expected: &[u8],
 ) -> Result<(Result<bool, StatusStop>, bool), NoMemory> {
@@ -161,7 +176,7 @@ fn of_three(
     let mut nodes = three(alloc, &mut reg)?;
     let mut out = sink(alloc, 1000, fails)?;
     let text = br#"{"nodes":[1,2,3],"logs":[{"id":1,"set":[1,2,3],"r":2}]}"#;
-    let done = status(alloc, text, 2, &mut reg, &mut nodes, &mut out)?;
+    let done = status(alloc, text, 2, json, &mut reg, &mut nodes, &mut out)?;
     Ok((done, out.bytes() == expected))
 }
 
@@ -171,7 +186,7 @@ fn of_one(alloc: Global) -> Result<(Result<bool, StatusStop>, bool), NoMemory> {
     let mut nodes = one(alloc, &mut reg)?;
     let mut out = sink(alloc, 1000, 100)?;
     let text = br#"{"nodes":[1],"logs":[{"id":1,"set":[1],"r":1}]}"#;
-    let done = status(alloc, text, 1, &mut reg, &mut nodes, &mut out)?;
+    let done = status(alloc, text, 1, false, &mut reg, &mut nodes, &mut out)?;
     Ok((done, out.bytes() == OF_ONE))
 }
 
@@ -182,7 +197,19 @@ fn ends(ended: (Result<bool, StatusStop>, bool), wanted: Result<bool, StatusStop
 
 #[test]
 fn each_node_has_its_lines(rt: HostRuntime) -> Result<(), Fail> {
-    assert_eq!(rt; ends(of_three(rt.alloc(), 100, OF_TWO)?, Ok(false)), true);
+    assert_eq!(rt;
+        ends(of_three(rt.alloc(), false, 100, OF_TWO)?, Ok(false)),
+        true
+    );
+    Ok(())
+}
+
+#[test]
+fn each_node_has_its_objects(rt: HostRuntime) -> Result<(), Fail> {
+    assert_eq!(rt;
+        ends(of_three(rt.alloc(), true, 100, OF_TWO_AS_JSON)?, Ok(false)),
+        true
+    );
     Ok(())
 }
 
@@ -195,6 +222,6 @@ fn all_nodes_answer(rt: HostRuntime) -> Result<(), Fail> {
 #[test]
 fn a_write_that_fails_ends_it(rt: HostRuntime) -> Result<(), Fail> {
     let stop = Err(StatusStop::Look(LookStop::Write));
-    assert_eq!(rt; ends(of_three(rt.alloc(), 0, b"")?, stop), true);
+    assert_eq!(rt; ends(of_three(rt.alloc(), false, 0, b"")?, stop), true);
     Ok(())
 }

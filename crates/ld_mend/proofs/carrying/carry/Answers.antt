@@ -1,4 +1,4 @@
-use Rattle.std.proofs.Common.{◌≡◌, List, [], Some, refl, slice_get, length, arith}
+use Rattle.std.proofs.Common.{◌∙◌, ◌≡◌, List, [], Some, refl, slice_get, length, arith}
 use Rattle.std.proofs.lemmas.Option.{slice_get_read}
 use Rattle.std.proofs.lemmas.Result.{err_from_is_err_and}
 use Rattle.ld_msg.specs.declared.msg.Msg.{Msg}
@@ -32,4 +32,5 @@ asks-preserved g c = record {
       (λ f t heard. c.in_ok-bring.ensures.moved known k r asks f c.asks.place written t at (all-slice_get (λ (m : Msg). m.from ≡ whos.Node c.args.id) asks c.asks.place ask from at) heard);
   silent = λ h. c.in_ok-bring.ensures.silent (c.asks.invariant.silent h);
   later = omega (arith, c.in_ok-bring.ensures.later, c.asks.invariant.later);
+  lent = c.in_ok-bring.ensures.lent ∙ c.asks.invariant.lent;
 }

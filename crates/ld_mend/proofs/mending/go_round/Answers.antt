@@ -20,6 +20,7 @@ rounds-init g c = record {
   later = record { disk = omega arith; register = omega arith; output = omega arith };
   told = λ h. h;
   itself = refl;
+  lent = refl;
 }
 
 pub returns-in_err-mended-clause-moved : goal.returns-in_err-mended-clause-moved
@@ -49,6 +50,7 @@ rounds-preserved g c = record {
   later = record { disk = omega (arith, c.rounds.invariant.later.disk, c.in_ok-mended.ensures.later.disk); register = omega (arith, c.rounds.invariant.later.register, c.in_ok-mended.ensures.later.register); output = omega (arith, c.rounds.invariant.later.output, c.in_ok-mended.ensures.later.output) };
   told = λ h. c.in_ok-mended.ensures.told (c.rounds.invariant.told h);
   itself = c.in_ok-mended.ensures.itself ∙ c.rounds.invariant.itself;
+  lent = c.in_ok-mended.ensures.lent ∙ c.rounds.invariant.lent;
 }
 
 pub returns-then-mended-clause-moved : goal.returns-then-mended-clause-moved

@@ -25,6 +25,7 @@ logs-init g c = (
     later = record { disk = omega arith; register = omega arith; output = omega arith };
     told = λ h. h;
     itself = refl;
+    lent = refl;
   },
 )
 
@@ -64,6 +65,7 @@ logs-preserved g c = (
     later = record { disk = omega (arith, c.logs.invariant.1.later.disk, c.in_ok-whole.ensures.later.disk); register = omega (arith, c.logs.invariant.1.later.register, c.in_ok-whole.ensures.later.register); output = omega (arith, c.logs.invariant.1.later.output, c.in_ok-whole.ensures.later.output) };
     told = λ h. c.in_ok-whole.ensures.told (c.logs.invariant.1.told h);
     itself = c.in_ok-whole.ensures.itself ∙ c.logs.invariant.1.itself;
+    lent = c.in_ok-whole.ensures.lent ∙ c.logs.invariant.1.lent;
   },
 )
 

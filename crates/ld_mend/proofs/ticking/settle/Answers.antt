@@ -18,6 +18,7 @@ ticks-init g c = record {
   later = record { disk = omega arith; register = omega arith; output = omega arith };
   told = λ h. h;
   itself = refl;
+  lent = refl;
 }
 
 pub returns-in_err-asks-clause-moved : goal.returns-in_err-asks-clause-moved
@@ -68,6 +69,7 @@ ticks-preserved g c = record {
   later = record { disk = omega (arith, c.ticks.invariant.later.disk, c.in_ok-asks.ensures.later.disk); register = omega (arith, c.ticks.invariant.later.register, c.in_ok-asks.ensures.later.register); output = omega (arith, c.ticks.invariant.later.output, c.in_ok-asks.ensures.later.output) };
   told = λ h. c.in_ok-asks.ensures.told (c.ticks.invariant.told h);
   itself = c.in_ok-asks.ensures.itself ∙ c.ticks.invariant.itself;
+  lent = c.in_ok-asks.ensures.lent ∙ c.ticks.invariant.lent;
 }
 
 pub returns-clause-moved : goal.returns-clause-moved

@@ -3,11 +3,11 @@ use Rattle.ld_operate.proofs.Groups.{answers_down, answers_none, answers_heard, 
 use Rattle.ld_operate.proofs.nodes.show_answers.Goals as goal
 
 pub returns-in-Err-clause-heard : goal.returns-in-Err-clause-heard
-returns-in-Err-clause-heard g c = answers_down (λ k far told. c.in-Err.ensures.dialed k far told)
+returns-in-Err-clause-heard g c = answers_down c.args.json (λ k far told. c.in-Err.ensures.dialed k far told)
 
 pub returns-in-None-clause-heard : goal.returns-in-None-clause-heard
 returns-in-None-clause-heard g c =
-    answers_none (g.N.Nodes.tells c.args.nodes.now) (g.N.Nodes.tells c.dial.new.self) (g.N.Nodes.tells c.show_points.new.nodes) (g.N.Nodes.silent c.show_points.new.nodes) c.args.log c.args.node _ _
+    answers_none c.args.json (g.N.Nodes.tells c.args.nodes.now) (g.N.Nodes.tells c.dial.new.self) (g.N.Nodes.tells c.show_points.new.nodes) (g.N.Nodes.silent c.show_points.new.nodes) c.args.log c.args.node _ _
     (g.O.Sink.written c.args.out.now) (g.O.Sink.written c.show_points.new.out) (λ k far told. c.in-Ok.ensures.dialed k far told) (rw c.in-None.is at c.in_ok-trim.ensures.heard)
 
 pub returns-clause-heard : goal.returns-clause-heard

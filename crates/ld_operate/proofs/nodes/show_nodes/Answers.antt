@@ -15,7 +15,7 @@ loop-place-preserved g c =
     let at : slice_get (members c.args.set.now) c.loop-place.place ≡ Some c.in-Some.node = sym c.nth.ensures.node ∙ c.in-Some.is in (
       c.loop-place.invariant.0,
       record {
-        heard = subst (λ (l : List ℕ). HeardAll (g.N.Nodes.tells c.args.nodes.now) (g.N.Nodes.tells c.show_node.new.nodes) (g.N.Nodes.silent c.show_node.new.nodes) c.args.log c.args.first (c.args.last + 1 - c.args.first) l (g.O.Sink.written c.args.out.now) (g.O.Sink.written c.show_node.new.out) c.both-whole.result)
+        heard = subst (λ (l : List ℕ). HeardAll c.args.json (g.N.Nodes.tells c.args.nodes.now) (g.N.Nodes.tells c.show_node.new.nodes) (g.N.Nodes.silent c.show_node.new.nodes) c.args.log c.args.first (c.args.last + 1 - c.args.first) l (g.O.Sink.written c.args.out.now) (g.O.Sink.written c.show_node.new.out) c.both-whole.result)
             (sym (took c.loop-place.place c.in-Some.node (members c.args.set.now) at))
             (one_more_heard c.both-whole.result c.in_ok-answered.ensures.quiet c.both-whole.ensures before.heard c.in_ok-answered.ensures.heard);
         broken = broken_more _ _ _ _ _ _ c.loop-place.whole c.in_ok-answered.answered c.both-whole.result c.both-whole.ensures before.broken c.in_ok-answered.ensures.broken before.later c.in_ok-answered.ensures.later;

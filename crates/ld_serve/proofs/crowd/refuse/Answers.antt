@@ -1,4 +1,4 @@
-use Rattle.std.proofs.Common.{◌≤◌, arith, refl}
+use Rattle.std.proofs.Common.{arith, refl}
 use Rattle.ld_wire.specs.Judging.{judge}
 use Rattle.ld_serve.proofs.CrowdStops.{refused_by}
 use Rattle.ld_serve.proofs.crowd.refuse.Goals as goal

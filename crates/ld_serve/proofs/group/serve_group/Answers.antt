@@ -1,4 +1,4 @@
-use Rattle.std.proofs.Common.{◌≡◌, ◌≤◌, ◌++◌, ◌+◌, ◌∷◌, ℕ, List, [], length, Some, sym, ap, ◌∙◌, subst, refl, inl, arith}
+use Rattle.std.proofs.Common.{◌≡◌, ◌≤◌, ◌++◌, ℕ, List, [], length, Some, sym, ap, ◌∙◌, subst, refl, inl, arith}
 use Rattle.std.proofs.lemmas.Result.{err_from_is_err_and}
 use Rattle.ld_crowd.specs.Serving.{put}
 use Rattle.ld_past.specs.Events.{Event}
@@ -8,12 +8,11 @@ use Rattle.ld_serve.specs.declared.group.Ending.{Ending}
 use Rattle.ld_serve.specs.declared.group.Answer.{Answer}
 use Rattle.ld_serve.specs.Chats.{held_in}
 use Rattle.ld_serve.specs.Serving.{State, state_of}
-use Rattle.ld_serve.specs.Group.{waiting_in, told, turns_off, Gathers, Ends, IsUnsettled}
+use Rattle.ld_serve.specs.Group.{waiting_in, told, Ends, IsUnsettled}
 use Rattle.ld_serve.proofs.Looks.{Held}
 use Rattle.ld_serve.proofs.Serving.{stand, past_there}
-use Rattle.ld_serve.proofs.CrowdStops.{other_counts}
 use Rattle.ld_serve.proofs.Groups.{told_longer}
-use Rattle.ld_serve.proofs.Settling.{settled_on, settled_off, lost, unsettled, stopped, gathered_in, stood_in, stop_cause, stop_other, unsettled_cause, unsettled_longer}
+use Rattle.ld_serve.proofs.Settling.{settled_on, settled_off, lost, unsettled, stopped, gathered_in, stood_in, unsettled_longer}
 use Rattle.ld_serve.proofs.group.serve_group.Goals as goal
 
 pub returns-in_err-ending-clause-off : goal.returns-in_err-ending-clause-off

@@ -9,3 +9,8 @@ returns-in-Err-clause-cause g c = (c.in-Err.ensures.cause.0, c.stop_of.ensures.t
 
 pub returns-in-Err-clause-counts : goal.returns-in-Err-clause-counts
 returns-in-Err-clause-counts g c = c.stop_of.ensures.counts _ _ c.in-Err.ensures.counts
+
+pub returns-in-Err-clause-waiting : goal.returns-in-Err-clause-waiting
+returns-in-Err-clause-waiting g c =
+    let some = c.in-Err.ensures.waiting in
+    record { held = some.held; reads = some.reads; cause = c.stop_of.ensures.told some.held some.cause }

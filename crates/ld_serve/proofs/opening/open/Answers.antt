@@ -1,8 +1,10 @@
 use Rattle.std.proofs.Common.{◌≡◌, ◌≤◌, ◌-◌, ◌^◌, ℕ, List, true, Some, Err, ap, sym, ◌∙◌, subst, inl, inr, ⊎_elim}
+use Rattle.std.specs.Prelude.{IfSome}
 use Rattle.ld_io.specs.Causes.{Rose}
 use Rattle.ld_disk.specs.Moments.{LeavesOnly}
 use Rattle.ld_msg.specs.Register.{Register as Contents, generation_of}
 use Rattle.ld_store.specs.Loads.{LeftOrMarked}
+use Rattle.ld_store.specs.Ops.{IfStands}
 use Rattle.ld_register.specs.declared.register.Drawn.{Drawn}
 use Rattle.ld_register.specs.Calls.{drawn, after_draw}
 use Rattle.ld_node.specs.Changes.{IsPast}
@@ -10,9 +12,9 @@ use Rattle.ld_node.specs.Draws.{answered}
 use Rattle.ld_node.specs.Formats.{format_of}
 use Rattle.ld_node.specs.Formats as formats
 use Rattle.ld_node.specs.Node.{plain_of, disk_of, is_blank, layout_of}
-use Rattle.ld_serve.specs.Opening.{Draws}
+use Rattle.ld_serve.specs.Opening.{Draws, IsOpening}
 use Rattle.ld_serve.proofs.Serving.{left_now}
-use Rattle.ld_serve.proofs.Openings.{blank_shows, load_caused, left_by_load, opens_found, held_found, opens_formatted, held_formatted, format_caused, blank_opens, blank_full, left_by_format, shows_still, draw_or_not}
+use Rattle.ld_serve.proofs.Openings.{blank_shows, load_caused, left_by_load, opens_found, held_found, held_too, opens_formatted, held_formatted, format_caused, blank_opens, blank_full, left_by_format, shows_still, draw_or_not}
 use Rattle.ld_serve.proofs.opening.open.Goals as goal
 
 pub returns-in-Err-clause-cause : goal.returns-in-Err-clause-cause
@@ -48,10 +50,13 @@ returns-then-not-format-clause-seen g c =
 pub returns-then-not-is_blank-clause-opens : goal.returns-then-not-is_blank-clause-opens
 returns-then-not-is_blank-clause-opens g c =
     let holds = g.G.Register.holds c.args.reg.now in
-    opens_found g.D.Disk.seen g.D.Disk.may_leave holds c.args.id c.args.format holds (g.D.Disk.seen c.args.disk) c.in-Ok.node (sym c.is_blank.ensures ∙ c.if-not-is_blank.true) c.in-Ok.ensures.opens
+    subst (λ p. IfSome (g.D.Disk.seen c.args.disk) (IfStands (IsOpening holds holds c.args.id c.args.format p))) (sym c.growing.ensures.rest.5)
+    (opens_found g.D.Disk.seen g.D.Disk.may_leave holds c.args.id c.args.format holds (g.D.Disk.seen c.args.disk) c.in-Ok.node (sym c.is_blank.ensures ∙ c.if-not-is_blank.true) c.in-Ok.ensures.opens)
 
 pub returns-then-not-is_blank-clause-holds : goal.returns-then-not-is_blank-clause-holds
-returns-then-not-is_blank-clause-holds g c = held_found g.D.Disk.seen g.D.Disk.may_leave (g.G.Register.holds c.args.reg.now) c.args.id c.args.format (g.D.Disk.seen c.args.disk) c.in-Ok.node c.in-Ok.ensures.opens
+returns-then-not-is_blank-clause-holds g c =
+    held_too (g.D.Disk.seen c.args.disk) c.growing.ensures.holds
+    (held_found g.D.Disk.seen g.D.Disk.may_leave (g.G.Register.holds c.args.reg.now) c.args.id c.args.format (g.D.Disk.seen c.args.disk) c.in-Ok.node c.in-Ok.ensures.opens)
 
 pub returns-clause-opens : goal.returns-clause-opens
 returns-clause-opens g c =
@@ -59,17 +64,20 @@ returns-clause-opens g c =
     let given = c.in_default.field-0 in
     let id_is = c.in-Ok.ensures.node.0 in
     let blank : is_blank node ≡ true = sym c.is_blank.ensures ∙ c.if-not-is_blank.false in
+    let holds = g.G.Register.holds c.args.reg.now in
     let holds_now = g.G.Register.holds c.format.new.reg in
-    opens_formatted g.D.Disk.seen g.D.Disk.may_leave (g.G.Register.holds c.args.reg.now) c.args.id c.args.format holds_now (g.D.Disk.seen c.args.disk) node c.format.new.self given
+    subst (λ p. IfSome (g.D.Disk.seen c.args.disk) (IfStands (IsOpening holds holds_now c.args.id c.args.format p))) (sym c.growing-2.ensures.rest.5)
+    (opens_formatted g.D.Disk.seen g.D.Disk.may_leave holds c.args.id c.args.format holds_now (g.D.Disk.seen c.args.disk) node c.format.new.self given
     c.if-not-format.false blank c.in-Ok.ensures.opens c.in_default.ensures.applied
     (λ contents held. subst (λ (i : ℕ). answered given ≡ drawn contents i) id_is (c.in_default.ensures.drawn contents held).0)
-    (λ contents held. subst (λ (i : ℕ). holds_now (after_draw contents i)) id_is (c.in_default.ensures.drawn contents held).1)
+    (λ contents held. subst (λ (i : ℕ). holds_now (after_draw contents i)) id_is (c.in_default.ensures.drawn contents held).1))
 
 pub returns-clause-holds : goal.returns-clause-holds
 returns-clause-holds g c =
     let D = g.D.Disk in
-    held_formatted D.seen D.may_leave (g.G.Register.holds c.args.reg.now) c.args.id c.args.format (D.seen c.args.disk) c.in-Ok.node c.format.new.self
-    (sym c.is_blank.ensures ∙ c.if-not-is_blank.false) c.in-Ok.ensures.opens c.in_default.ensures.acknowledged
+    held_too (D.seen c.args.disk) c.growing-2.ensures.holds
+    (held_formatted D.seen D.may_leave (g.G.Register.holds c.args.reg.now) c.args.id c.args.format (D.seen c.args.disk) c.in-Ok.node c.format.new.self
+    (sym c.is_blank.ensures ∙ c.if-not-is_blank.false) c.in-Ok.ensures.opens c.in_default.ensures.acknowledged)
 
 pub returns-in-Err-format-clause-cause : goal.returns-in-Err-format-clause-cause
 returns-in-Err-format-clause-cause g c =
@@ -83,7 +91,7 @@ returns-in-Err-format-clause-cause g c =
     (λ e. subst (λ n. Rose n (g.D.Disk.faults (disk_of c.format.new.self))) c.in-Ok.ensures.steady (c.in-Err-format.ensures.failed (ap Err e)))
     (λ e. c.in-Err-format.ensures.register_failed (ap Err e))
     (λ place e. c.in-Err-format.ensures.register_damaged place (ap Err e))
-    (λ e. blank_full g.D.Disk.seen g.D.Disk.may_leave holds c.args.id c.args.format (g.D.Disk.seen c.args.disk) node blank opened
+    (λ e. blank_full g.D.Disk.seen g.D.Disk.may_leave holds c.args.id c.args.format (g.D.Disk.seen c.args.disk) node blank c.in-Ok.ensures.still opened
     (λ stands contents held. subst (λ (i : ℕ). (given : Drawn) × (answered given ≡ drawn contents i) × IsPast (layout_of node) (Some (format_of given))) id_is (c.in-Err-format.ensures.full contents stands held (ap Err e))))
     (λ e told. c.in-Err-format.ensures.register_full (ap Err e) told)
     (λ e told. subst (λ (i : ℕ). (contents : Contents) × holds contents × (2 ^ 32 - 1 ≤ generation_of contents i)) id_is (c.in-Err-format.ensures.generations (ap Err e) told)))

@@ -9,6 +9,7 @@ use Rattle.ld_serve.proofs.Serving.{state_is, state_stays, stand, past_limit, le
 use Rattle.ld_serve.proofs.Stops.{unread_serving, unread_counts, node_serving, node_held, unsent_serving, unsent_counts}
 use Rattle.ld_serve.proofs.Courses.{unheard, ended_turn, refused, cut_short, framed_turn}
 use Rattle.ld_serve.proofs.Frames.{are_messages}
+use Rattle.ld_serve.specs.Told.{Reading, Refusing, Answering, Stops}
 use Rattle.ld_serve.proofs.turn.turn.Goals as goal
 
 pub returns-in_err-message-clause-heard : goal.returns-in_err-message-clause-heard
@@ -139,3 +140,76 @@ returns-clause-turned g c start s turns holds w =
     framed_turn _ _ start s _ _ _ _ c.in-Some.message c.next_frame.new.decoder c.as_slice.result.now _ _ turns w (rw c.in-Some.is at c.in_ok-message.ensures.heard)
     (rw c.in-Some.is at c.in_ok-message.ensures.message) c.in_ok-answer.ensures.written (c.as_slice.ensures ∙ c.in-Ok.ensures.replies holds)
     (state_is _ _ _ _ (c.in-Ok.ensures.kept holds) c.in-Ok.ensures.released)
+
+-- ---- by the calls of the link ----
+
+pub returns-in_err-message-clause-told : goal.returns-in_err-message-clause-told
+returns-in_err-message-clause-told g c =
+    let p = err_from_is_err_and c.from_residual.result c.from_residual.ensures.1 in
+    let node = c.args.node.now in
+    let some = c.in_err-message.ensures.waiting in
+    rw (p.1, p.2) (record {
+      halt = Reading some.held;
+      last = Stops.reading _ _ some.held some.reads some.cause;
+      exact = λ holds. (record { its = tt; cut = (some.cause, stand g.D.Disk.seen g.D.Disk.may_leave node (plain_of node) refl holds) }, inr refl);
+    })
+
+pub returns-in_default-clause-told : goal.returns-in_default-clause-told
+returns-in_default-clause-told g c = record { rest = c.next_frame.new.decoder.bytes; reads = rw c.in_default.is at c.in_ok-message.ensures.waiting; same = λ _. refl }
+
+pub returns-in-Err-clause-told : goal.returns-in-Err-clause-told
+returns-in-Err-clause-told g c =
+    let old = c.args.node.now in
+    let new = c.on_msg.new.self in
+    let reads = rw c.in-Some.is at c.in_ok-message.ensures.waiting in
+    let is = rw c.in-Some.is at c.in_ok-message.ensures.message in
+    record {
+      halt = Refusing c.in-Some.message;
+      last = Stops.refusing _ _ c.next_frame.new.decoder.bytes c.in-Some.message reads is c.stop_of.ensures.cause;
+      exact = λ holds. (
+        record {
+          its = tt;
+          cut = (
+            node_held ⊤ _ c.stop_of.ensures.cause (λ place is t. c.in-Err.ensures.damaged place holds (ap Err (c.stop_of.ensures.damaged place is))),
+            left_now g.D.Disk.may_leave g.D.Disk.moment g.D.Disk.left_since g.met.D.Disk.counts_now (disk_of old) (disk_of new) _ (c.in-Err.ensures.any_moment holds),
+            λ full.
+                let is_full = c.stop_of.ensures.full full in
+                past_limit g.D.Disk.seen g.D.Disk.may_leave old new _ (⊎_elim (λ disk. absurd cc) (λ same. state_stays old new same.bytes c.in-Err.ensures.refused.0 c.in-Err.ensures.refused.3) c.in-Err.ensures.stays)
+                c.in-Err.ensures.refused.1 (⊎_elim (λ disk. absurd cc) (λ still. still) (c.in-Err.ensures.holds holds)) (c.in-Err.ensures.full holds (ap Err is_full)),
+          );
+        },
+        ⊎_elim (λ e. inl (c.stop_of.ensures.disk cc)) (λ same. inr (state_stays old new same.bytes c.in-Err.ensures.refused.0 c.in-Err.ensures.refused.3)) c.in-Err.ensures.stays,
+      );
+    }
+
+pub returns-in_err-answer-clause-told : goal.returns-in_err-answer-clause-told
+returns-in_err-answer-clause-told g c =
+    let p = err_from_is_err_and c.from_residual-in_err-answer.result c.from_residual-in_err-answer.ensures.1 in
+    let new = c.on_msg.new.self in
+    let reads = rw c.in-Some.is at c.in_ok-message.ensures.waiting in
+    let is = rw c.in-Some.is at c.in_ok-message.ensures.message in
+    let are = subst AreMessages (sym c.as_slice.ensures) (are_messages _ c.in-Ok.ensures.messages) in
+    rw (p.1, p.2) (record {
+      halt = Answering c.in-Some.message c.as_slice.result.now;
+      last = Stops.answering _ _ _ c.next_frame.new.decoder.bytes c.in-Some.message c.as_slice.result.now reads is c.in_err-answer.ensures.did are c.in_err-answer.ensures.cause;
+      exact = λ holds.
+          let kept = c.in-Ok.ensures.kept holds in (
+            record {
+              its = c.as_slice.ensures ∙ c.in-Ok.ensures.replies holds;
+              cut = (c.in_err-answer.ensures.cause, stand g.D.Disk.seen g.D.Disk.may_leave new _ (sym kept) (c.in-Ok.ensures.acknowledged holds));
+            },
+            inr (sym (state_is _ _ _ _ kept c.in-Ok.ensures.released)),
+          );
+    })
+
+pub returns-clause-told : goal.returns-clause-told
+returns-clause-told g c = record {
+  mid = g.L.Link.did c.next_frame.new.link;
+  message = c.in-Some.message;
+  given = c.as_slice.result.now;
+  reads = rw c.in-Some.is at c.in_ok-message.ensures.waiting;
+  is = rw c.in-Some.is at c.in_ok-message.ensures.message;
+  writes = c.in_ok-answer.ensures.did;
+  are = subst AreMessages (sym c.as_slice.ensures) (are_messages _ c.in-Ok.ensures.messages);
+  step = λ holds. (c.as_slice.ensures ∙ c.in-Ok.ensures.replies holds, state_is _ _ _ _ (c.in-Ok.ensures.kept holds) c.in-Ok.ensures.released);
+}

@@ -1,0 +1,11 @@
+use Rattle.std.proofs.Common.{◌≡◌, ◌≤◌, ◌-◌, ◌++◌, take, length}
+use Rattle.ld_stopped.proofs.output.write_all.Given as goal
+
+abbrev pub invariant-loop-done : goal.invariant-loop-done
+invariant-loop-done g l =
+    (l.done ≤ length l.bytes)
+    × (g.O.Sink.written l.out ≡ g.O.Sink.written l.fn.out ++ take l.done l.bytes)
+    × (g.O.Sink.faults l.out ≡ g.O.Sink.faults l.fn.out)
+
+abbrev pub decreases-loop-done : goal.decreases-loop-done
+decreases-loop-done g l = length l.bytes - l.done
