@@ -105,7 +105,7 @@ fn of_command(command: &Option<Command>) -> [u64; 7] {
             6,
             u64::from(words.log.number()),
             u64::from(words.from),
-            0,
+            u64::from(words.json),
             0,
             0,
             0,
@@ -116,9 +116,38 @@ fn of_command(command: &Option<Command>) -> [u64; 7] {
             of_reach(&words.reach),
             u64::from(words.limit),
             u64::from(words.epochs),
+            u64::from(words.json),
+            0,
+        ],
+        Some(Command::Mend(words)) => [
+            8,
+            u64::from(words.id.number()),
+            of_reach(&words.reach),
+            u64::from(words.rounds),
+            u64::from(words.limit),
             0,
             0,
         ],
+        Some(Command::Replace(words)) => [
+            9,
+            u64::from(words.id.number()),
+            u64::from(words.of.number()),
+            u64::from(words.log.number()),
+            0,
+            0,
+            0,
+        ],
+        Some(Command::Show(words)) => [
+            10,
+            u64::from(words.id.number()),
+            u64::from(words.json),
+            0,
+            0,
+            0,
+            0,
+        ],
+        Some(Command::Trim(words)) => of_log(11, &words.of, 0, words.upto.value(), 0),
+        Some(Command::Copy(_)) => [12, 0, 0, 0, 0, 0, 0],
         None => [0; 7],
     }
 }
@@ -155,6 +184,20 @@ const REGISTER: &str =
 
 const STATUS: &str =
     "status --config {\"nodes\":[1],\"logs\":[{\"id\":7,\"set\":[1],\"r\":1}]} --register r --log 7 --port 7000";
+
+const MEND: &str =
+    "mend --config {\"nodes\":[1,2],\"logs\":[{\"id\":7,\"set\":[1],\"r\":1}]} --store s --register r --port 7000 --id";
+
+const REPLACE: &str =
+    "replace --config {\"nodes\":[1,2,3],\"logs\":[{\"id\":7,\"set\":[1,2],\"r\":2}]} --store s --register r --id 3";
+
+const SHOW: &str =
+    "show --config {\"nodes\":[1,16],\"logs\":[{\"id\":7,\"set\":[1],\"r\":1}]} --store s --id 16";
+
+const TRIM: &str =
+    "trim --config {\"nodes\":[1],\"logs\":[{\"id\":7,\"set\":[1],\"r\":1}]} --register r --log 7 --port 7000 --rounds 9";
+
+const COPY: &str = "register --register r --copy t";
 
 const FOLLOW: &str =
     "tail --config {\"nodes\":[1],\"logs\":[{\"id\":1,\"set\":[1],\"r\":1}]} --register r --log 1 --port 7000 --from e0n1 --follow";
@@ -206,6 +249,8 @@ fn words_may_leave_options_out(rt: HostRuntime) -> Result<(), Fail> {
             [7, 7, 7_000, 100, 1, 0, 0],
         ),
         (STATUS, " --epochs 0", [0, 0, 0, 0, 0, 0, 0]),
+        (REGISTER, " --json", [6, 7, 1, 1, 0, 0, 0]),
+        (STATUS, " --json", [7, 7, 7_000, 10_000, 16, 1, 0]),
         (
             APPEND,
             " --in-flight 128",
@@ -213,6 +258,43 @@ fn words_may_leave_options_out(rt: HostRuntime) -> Result<(), Fail> {
         ),
         (APPEND, " --in-flight 129", [0, 0, 0, 0, 0, 0, 0]),
         (APPEND, " --in-flight 0", [0, 0, 0, 0, 0, 0, 0]),
+    ] {
+        let mut words = line.to_string(rt.alloc())?;
+        words.push_str(more)?;
+        assert_eq!(rt; asked(rt.alloc(), words.as_str())?, expected);
+    }
+    Ok(())
+}
+
+#[test]
+fn words_ask_for_commands_of_an_operator(rt: HostRuntime) -> Result<(), Fail> {
+    for (line, more, expected) in [
+        (
+            MEND,
+            " 2 --rounds 1000000",
+            [8, 2, 7_000, 1_000_000, 10_000, 0, 0],
+        ),
+        (
+            MEND,
+            " 1 --rounds 1 --limit 100",
+            [8, 1, 7_000, 1, 100, 0, 0],
+        ),
+        (MEND, " 3 --rounds 1", [0, 0, 0, 0, 0, 0, 0]),
+        (MEND, " 2 --rounds 1000001", [0, 0, 0, 0, 0, 0, 0]),
+        (REPLACE, " --of 1 --log 7", [9, 3, 1, 7, 0, 0, 0]),
+        (REPLACE, " --of 3 --log 7", [0, 0, 0, 0, 0, 0, 0]),
+        (REPLACE, " --of 4 --log 7", [0, 0, 0, 0, 0, 0, 0]),
+        (REPLACE, " --of 1 --log 8", [0, 0, 0, 0, 0, 0, 0]),
+        (SHOW, "", [10, 16, 0, 0, 0, 0, 0]),
+        (SHOW, " --json", [10, 16, 1, 0, 0, 0, 0]),
+        (TRIM, " --upto e1n2", [11, 7, 7_000, 9, 0, 4_294_967_298, 0]),
+        (TRIM, " --upto e0n1", [11, 7, 7_000, 9, 0, 1, 0]),
+        (TRIM, " --upto e0n0", [0, 0, 0, 0, 0, 0, 0]),
+        (COPY, "", [12, 0, 0, 0, 0, 0, 0]),
+        (COPY, " --json", [0, 0, 0, 0, 0, 0, 0]),
+        (COPY, " --from 1", [0, 0, 0, 0, 0, 0, 0]),
+        (REGISTER, " --copy t", [0, 0, 0, 0, 0, 0, 0]),
+        ("register --register r --copy r", "", [0, 0, 0, 0, 0, 0, 0]),
     ] {
         let mut words = line.to_string(rt.alloc())?;
         words.push_str(more)?;
@@ -252,6 +334,46 @@ fn named(alloc: Global, line: &str) -> Result<(bool, bool, u64, u32), Fail> {
         Some(store) => Ok((store.as_str() == "s", there, of_listen(&places.listen), 0)),
         None => Ok((false, there, of_reach(&places.reach), places.limit)),
     }
+}
+
+/// The files that the line names: of the store, of the register and of a register that is copied, with blanks between them, and a
+/// hyphen for each that there isn't.
+fn files_of(alloc: Global, line: &str) -> Result<String, Fail> {
+    let words = words_of(alloc, line)?;
+    let mut files = String::new(alloc);
+    if let Some(places) = places(alloc, &words)? {
+        match &places.store {
+            Some(store) => files.push_str(store.as_str())?,
+            None => files.push_str("-")?,
+        }
+        files.push_str(" ")?;
+        files.push_str(places.register.as_str())?;
+        match &places.copied {
+            Some(copied) => {
+                files.push_str(" ")?;
+                files.push_str(copied.as_str())?;
+            }
+            None => files.push_str(" -")?,
+        }
+    }
+    Ok(files)
+}
+
+#[test]
+fn commands_name_their_files(rt: HostRuntime) -> Result<(), Fail> {
+    for (line, more, expected) in [
+        (MEND, " 2 --rounds 1", "s r -"),
+        (REPLACE, " --of 1 --log 7", "s r -"),
+        (SHOW, "", "s  -"),
+        (TRIM, " --upto e0n1", "- r -"),
+        (COPY, "", "- r t"),
+        (REGISTER, "", "- r -"),
+    ] {
+        let mut words = line.to_string(rt.alloc())?;
+        words.push_str(more)?;
+        assert!(rt; files_of(rt.alloc(), words.as_str())?.as_str() == expected);
+    }
+    Ok(())
 }
 
 /// Whether the line asks for a command that tells nothing but the cause of a failure.

@@ -15,6 +15,12 @@ pub with_argument : (old : Command) (a : Arg) (new : Command) (shape : Shape) (r
 with_argument old a new shape rule adds is ruled own =
     record { app = adds.shape own ∙ ap₂ with_rule is.app ruled; own = adds.globals ∙ ap₂ (λ a b. a || b) is.own own }
 
+-- the same, where the command could be made
+pub with_one : {E : Type 0} (old : Result Command E) (a : Arg) (c : Command) (new : Result Command E) (shape : Shape) (rule : Rule) → old ≡ Ok c
+    → IfOk new (AddsArg c a) → IfOk old (IsCommand shape) → rule_of a ≡ rule → a.global ≡ false → IfOk new (IsCommand (record shape { rules = shape.rules ++ rule ∷ [] }))
+with_one old a c new shape rule is adds has ruled own =
+    IfOk-weaker new _ _ (λ r h. with_argument c a r shape rule h (subst (λ x. IfOk x (IsCommand shape)) is has) ruled own) adds
+
 -- the commands with a command more
 pub with_command : (old sub new : Command) (app : App) (shape : Shape) → AddsSubcommand old sub new → app_of old ≡ app → IsCommand shape sub
     → app_of new ≡ with_subcommand app shape

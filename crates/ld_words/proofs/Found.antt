@@ -12,7 +12,7 @@ use Rattle.clap.specs.declared.parser.matches.ArgMatches.{ArgMatches}
 use Rattle.ld_words.specs.declared.command.Command.{Command}
 use Rattle.ld_words.specs.declared.refusal.Refusal.{Refusal}
 use Rattle.ld_words.specs.Grammar.{ld_app, if_fine, found}
-use Rattle.ld_words.specs.Meaning.{IsFound, Asks, IsNoCommand}
+use Rattle.ld_words.specs.Meaning.{IsNamed, IsFound, Asks, IsNoCommand}
 use Rattle.ld_words.specs.Refuses.{Refuses}
 
 none_of : {X : Type 0} (ks : Kinds) (o : Option X) → ks ≢ [] → if_fine ks o ≡ None
@@ -39,6 +39,13 @@ pub asked_as : (words : List Text) (o : Option (Text × List Row)) (r : Result C
     → MatchResult r (Asks words) (Refuses (IsNoCommand words))
 asked_as words o r e h =
     subst (λ o. MatchResult r (IsFound o) (Refuses ((c : Command) → IsFound o c → ⊥))) (sym e) h
+
+-- what was found for a name, where the command has this one
+pub of_name : (name other : Text) (rows : List Row) (r : Result Command Refusal) → name ≡ other
+    → MatchResult r (IsNamed other rows) (Refuses ((c : Command) → IsNamed other rows c → ⊥))
+    → MatchResult r (IsNamed name rows) (Refuses ((c : Command) → IsNamed name rows c → ⊥))
+of_name name other rows r e h =
+    subst (λ n. MatchResult r (IsNamed n rows) (Refuses ((c : Command) → IsNamed n rows c → ⊥))) (sym e) h
 
 -- what a parse says of the words, where its command is the one that is defined
 pub found_by : (app : App) (words : List Text) (m : ArgMatches) → app ≡ ld_app → HasMatchesOf app words m

@@ -25,9 +25,9 @@ exercise_shape = record (new_shape (codes "exercise")) {
   rules = option_rule (codes "seed") ∷ option_rule (codes "events") ∷ [];
 }
 
--- the command that serves a node, as far as the node's files
-abbrev pub files_shape : Shape
-files_shape = record (new_shape (codes "node")) {
+-- a command over a node's files
+abbrev pub files_shape : Text → Shape
+files_shape name = record (new_shape name) {
   rules = option_rule (codes "id") ∷ option_rule (codes "config") ∷ option_rule (codes "store") ∷ option_rule (codes "register") ∷ [];
 }
 
@@ -57,17 +57,44 @@ tail_shape = record (new_shape (codes "tail")) {
       ∷ choice_rule (codes "pause") ∷ flag_rule (codes "follow") ∷ flag_rule (codes "one-copy") ∷ flag_rule (codes "messages") ∷ flag_rule (codes "text") ∷ flag_rule (codes "json") ∷ [];
 }
 
--- the command that tells what the register says of a log
+-- the command that tells what the register says of a log, or that copies it
 abbrev pub register_shape : Shape
 register_shape = record (new_shape (codes "register")) {
-  rules = option_rule (codes "config") ∷ option_rule (codes "log") ∷ option_rule (codes "register") ∷ choice_rule (codes "from") ∷ [];
+  rules = option_rule (codes "register") ∷ choice_rule (codes "config") ∷ choice_rule (codes "log") ∷ choice_rule (codes "from") ∷ flag_rule (codes "json") ∷ choice_rule (codes "copy") ∷ [];
 }
 
 -- the command that tells what the register and each node say of a log
 abbrev pub status_shape : Shape
 status_shape = record (new_shape (codes "status")) {
   rules = option_rule (codes "config") ∷ option_rule (codes "log") ∷ option_rule (codes "register")
-      ∷ choice_rule (codes "port") ∷ choice_rule (codes "at") ∷ choice_rule (codes "limit") ∷ choice_rule (codes "epochs") ∷ [];
+      ∷ choice_rule (codes "port") ∷ choice_rule (codes "at") ∷ choice_rule (codes "limit") ∷ choice_rule (codes "epochs") ∷ flag_rule (codes "json") ∷ [];
+}
+
+-- the command by which a stopped node learns what it missed
+abbrev pub mend_shape : Shape
+mend_shape = record (new_shape (codes "mend")) {
+  rules = option_rule (codes "id") ∷ option_rule (codes "config") ∷ option_rule (codes "store") ∷ option_rule (codes "register")
+      ∷ choice_rule (codes "port") ∷ choice_rule (codes "at") ∷ option_rule (codes "rounds") ∷ choice_rule (codes "limit") ∷ [];
+}
+
+-- the command by which a stopped node takes another one's place
+abbrev pub replace_shape : Shape
+replace_shape = record (new_shape (codes "replace")) {
+  rules = option_rule (codes "id") ∷ option_rule (codes "config") ∷ option_rule (codes "store") ∷ option_rule (codes "register")
+      ∷ option_rule (codes "of") ∷ option_rule (codes "log") ∷ [];
+}
+
+-- the command that shows the store of a stopped node
+abbrev pub show_shape : Shape
+show_shape = record (new_shape (codes "show")) {
+  rules = option_rule (codes "id") ∷ option_rule (codes "config") ∷ option_rule (codes "store") ∷ flag_rule (codes "json") ∷ [];
+}
+
+-- the command that trims a log
+abbrev pub trim_shape : Shape
+trim_shape = record (new_shape (codes "trim")) {
+  rules = option_rule (codes "config") ∷ option_rule (codes "log") ∷ option_rule (codes "register")
+      ∷ choice_rule (codes "port") ∷ choice_rule (codes "at") ∷ choice_rule (codes "limit") ∷ option_rule (codes "rounds") ∷ option_rule (codes "upto") ∷ [];
 }
 
 -- clap's command has this shape, and nothing in it is for other commands
@@ -85,7 +112,8 @@ ld_app = record {
     disable_help_subcommand = true;
     subcommand_required = true;
   };
-  subs = new_shape (codes "replay") ∷ exercise_shape ∷ node_shape ∷ append_shape ∷ tail_shape ∷ register_shape ∷ status_shape ∷ [];
+  subs = new_shape (codes "replay") ∷ exercise_shape ∷ node_shape ∷ append_shape ∷ tail_shape ∷ register_shape ∷ status_shape
+      ∷ mend_shape ∷ replace_shape ∷ show_shape ∷ trim_shape ∷ [];
 }
 
 abbrev pub if_fine : {X : Type 0} → Kinds → Option X → Option X

@@ -26,6 +26,11 @@ use Rattle.ld_words.specs.declared.command.TailWords.{TailWords}
 use Rattle.ld_words.specs.declared.command.CrowdWords.{CrowdWords}
 use Rattle.ld_words.specs.declared.command.RegisterWords.{RegisterWords}
 use Rattle.ld_words.specs.declared.command.StatusWords.{StatusWords}
+use Rattle.ld_words.specs.declared.command.MendWords.{MendWords}
+use Rattle.ld_words.specs.declared.command.ReplaceWords.{ReplaceWords}
+use Rattle.ld_words.specs.declared.command.ShowWords.{ShowWords}
+use Rattle.ld_words.specs.declared.command.TrimWords.{TrimWords}
+use Rattle.ld_words.specs.declared.command.CopyWords.{CopyWords}
 use Rattle.ld_words.specs.declared.command.Places.{Places}
 use Rattle.ld_words.specs.declared.address.NodeAddress.{NodeAddress}
 use Rattle.ld_words.specs.declared.address.Listen.{Listen}
@@ -33,7 +38,7 @@ use Rattle.ld_words.specs.declared.address.Listen.TheVariants as listens
 use Rattle.ld_words.specs.declared.address.Reach.{Reach}
 use Rattle.ld_words.specs.declared.address.Reach.TheVariants as reaches
 use Rattle.ld_words.specs.declared.command.Command.{Command}
-use Rattle.ld_words.specs.declared.command.Command.TheVariants.{Replay, Exercise, Node, Crowd, Append, Tail, Register, Status}
+use Rattle.ld_words.specs.declared.command.Command.TheVariants.{Replay, Exercise, Node, Crowd, Append, Tail, Register, Status, Mend, Replace, Show, Trim, Copy}
 use Rattle.ld_words.specs.Grammar.{found}
 
 -- ---- values
@@ -276,6 +281,7 @@ pub record IsRegisterWords (rows : List Row) (r : RegisterWords) : Type 0 where
   pub known : IsLogOf r.log r.config
   pub register : Is (codes "register") rows r.register
   pub from : IsNumberOr (codes "from") rows 1 (2 ^ 32 - 1) 1 r.from
+  pub json : r.json ≡ is_true (first_of (codes "json") rows)
 
 -- the last 16 epochs are told where the argument isn't given
 pub record IsStatusWords (rows : List Row) (s : StatusWords) : Type 0 where
@@ -286,6 +292,64 @@ pub record IsStatusWords (rows : List Row) (s : StatusWords) : Type 0 where
   pub reach : IsReach rows s.config.nodes s.reach
   pub limit : IsNumberOr (codes "limit") rows 100 60000 10000 s.limit
   pub epochs : IsNumberOr (codes "epochs") rows 1 1000000 16 s.epochs
+  pub json : s.json ≡ is_true (first_of (codes "json") rows)
+
+-- a node, which is one of the configuration's
+pub record IsNodeOf (rows : List Row) (n : ℕ) (c : Config) : Type 0 where
+  pub id : IsNumber (codes "id") rows 1 16 n
+  pub config : IsConfig (codes "config") rows c
+  pub member : IsMember n c
+
+-- a log, which is one of the configuration's
+pub record IsKnownLog (rows : List Row) (l : ℕ) (c : Config) : Type 0 where
+  pub config : IsConfig (codes "config") rows c
+  pub log : IsNumber (codes "log") rows 1 65535 l
+  pub known : IsLogOf l c
+
+pub record IsMendWords (rows : List Row) (m : MendWords) : Type 0 where
+  pub node : IsNodeOf rows m.id m.config
+  pub files : AreFiles rows m.store m.register
+  pub reach : IsReach rows m.config.nodes m.reach
+  pub rounds : IsNumber (codes "rounds") rows 1 1000000 m.rounds
+  pub limit : IsNumberOr (codes "limit") rows 100 60000 10000 m.limit
+
+-- the place that a node takes: that of another one of the configuration's nodes, in a log of the configuration
+pub record IsPlaceFor (rows : List Row) (n : ℕ) (c : Config) (other l : ℕ) : Type 0 where
+  pub of : IsNumber (codes "of") rows 1 16 other
+  pub member : IsMember other c
+  pub apart : n ≢ other
+  pub log : IsNumber (codes "log") rows 1 65535 l
+  pub known : IsLogOf l c
+
+pub record IsReplaceWords (rows : List Row) (r : ReplaceWords) : Type 0 where
+  pub node : IsNodeOf rows r.id r.config
+  pub place : IsPlaceFor rows r.id r.config r.of r.log
+  pub files : AreFiles rows r.store r.register
+
+pub record IsShowWords (rows : List Row) (s : ShowWords) : Type 0 where
+  pub node : IsNodeOf rows s.id s.config
+  pub store : Is (codes "store") rows s.store
+  pub json : s.json ≡ is_true (first_of (codes "json") rows)
+
+-- the last number that is trimmed is above e0n0
+pub record IsTrimWords (rows : List Row) (t : TrimWords) : Type 0 where
+  pub of : IsLogWords rows t.of
+  pub upto : IsLsn (codes "upto") rows t.upto
+  pub some : 1 ≤ t.upto
+
+-- nothing is said of a log beside the register that is copied
+pub record IsAlone (rows : List Row) : Type 0 where
+  pub config : IsAbsent (codes "config") rows
+  pub log : IsAbsent (codes "log") rows
+  pub from : IsAbsent (codes "from") rows
+  pub json : is_true (first_of (codes "json") rows) ≡ false
+
+-- the register that is copied and the place that it is copied to don't have one name
+pub record IsCopyWords (rows : List Row) (c : CopyWords) : Type 0 where
+  pub copy : Is (codes "copy") rows c.from
+  pub register : Is (codes "register") rows c.register
+  pub apart : c.from ≢ c.register
+  pub alone : IsAlone rows
 
 -- the command has this name, and these values of its arguments
 abbrev pub IsNamed : Text → List Row → Command → Type 0
@@ -295,8 +359,13 @@ IsNamed name rows (Node n) = (name ≡ codes "node") × IsNodeWords rows n × Is
 IsNamed name rows (Crowd c) = (name ≡ codes "node") × IsCrowdWords rows c
 IsNamed name rows (Append w) = (name ≡ codes "append") × IsAppendWords rows w
 IsNamed name rows (Tail t) = (name ≡ codes "tail") × IsTailWords rows t
-IsNamed name rows (Register r) = (name ≡ codes "register") × IsRegisterWords rows r
+IsNamed name rows (Register r) = (name ≡ codes "register") × IsRegisterWords rows r × IsAbsent (codes "copy") rows
 IsNamed name rows (Status s) = (name ≡ codes "status") × IsStatusWords rows s
+IsNamed name rows (Mend m) = (name ≡ codes "mend") × IsMendWords rows m
+IsNamed name rows (Replace r) = (name ≡ codes "replace") × IsReplaceWords rows r
+IsNamed name rows (Show s) = (name ≡ codes "show") × IsShowWords rows s
+IsNamed name rows (Trim t) = (name ≡ codes "trim") × IsTrimWords rows t
+IsNamed name rows (Copy c) = (name ≡ codes "register") × IsCopyWords rows c
 
 -- the command is what clap finds in the arguments
 pub record IsFound (found : Option (Text × List Row)) (command : Command) : Type 0 where
@@ -320,6 +389,7 @@ pub record ArePlacesOfNode (n : NodeWords) (places : Places) : Type 0 where
   pub store : places.store ≡ Some n.store
   pub register : places.register ≡ n.register
   pub listen : places.listen ≡ n.listen
+  pub copied : places.copied ≡ None
   pub quiet : places.quiet ≡ n.quiet
 
 -- and these are its peers, where it serves several at once
@@ -331,25 +401,39 @@ pub record ArePlacesOfCrowd (c : CrowdWords) (places : Places) : Type 0 where
 pub record ArePlacesOfLog (w : LogWords) (places : Places) : Type 0 where
   pub store : places.store ≡ None
   pub register : places.register ≡ w.register
+  pub copied : places.copied ≡ None
   pub reach : places.reach ≡ w.reach
   pub limit : places.limit ≡ w.limit
   pub quiet : places.quiet ≡ false
 
--- this is the file of the register, and there is nothing else
-pub record ArePlacesOfRegister (r : RegisterWords) (places : Places) : Type 0 where
-  pub store : places.store ≡ None
-  pub register : places.register ≡ r.register
+-- these are a store, where the command has one, a register, and a register that is copied, where there is one; and there is
+-- nothing else
+pub record AreFilesAlone (held : Option Text) (kept : Text) (source : Option Text) (places : Places) : Type 0 where
+  pub store : places.store ≡ held
+  pub register : places.register ≡ kept
+  pub copied : places.copied ≡ source
   pub quiet : places.quiet ≡ false
 
 -- this is the file of the register, and where the nodes are
 pub record ArePlacesOfStatus (s : StatusWords) (places : Places) : Type 0 where
   pub store : places.store ≡ None
   pub register : places.register ≡ s.register
+  pub copied : places.copied ≡ None
   pub reach : places.reach ≡ s.reach
   pub limit : places.limit ≡ s.limit
   pub quiet : places.quiet ≡ false
 
--- these are the files of the command, and where it listens or dials
+-- these are the files of the stopped node, and where the nodes are
+pub record ArePlacesOfMend (m : MendWords) (places : Places) : Type 0 where
+  pub store : places.store ≡ Some m.store
+  pub register : places.register ≡ m.register
+  pub copied : places.copied ≡ None
+  pub reach : places.reach ≡ m.reach
+  pub limit : places.limit ≡ m.limit
+  pub quiet : places.quiet ≡ false
+
+-- these are the files of the command, and where it listens or dials; a command that only shows a store has no register, whose name
+-- is empty then
 abbrev pub ArePlacesOf : Command → Places → Type 0
 ArePlacesOf Replay places = ⊥
 ArePlacesOf (Exercise seed events) places = ⊥
@@ -357,8 +441,13 @@ ArePlacesOf (Node n) places = ArePlacesOfNode n places × (places.company ≡ No
 ArePlacesOf (Crowd c) places = ArePlacesOfCrowd c places
 ArePlacesOf (Append w) places = ArePlacesOfLog w.of places
 ArePlacesOf (Tail t) places = ArePlacesOfLog t.of places
-ArePlacesOf (Register r) places = ArePlacesOfRegister r places
+ArePlacesOf (Register r) places = AreFilesAlone None r.register None places
 ArePlacesOf (Status s) places = ArePlacesOfStatus s places
+ArePlacesOf (Mend m) places = ArePlacesOfMend m places
+ArePlacesOf (Replace r) places = AreFilesAlone (Some r.store) r.register None places
+ArePlacesOf (Show s) places = AreFilesAlone (Some s.store) [] None places
+ArePlacesOf (Trim t) places = ArePlacesOfLog t.of places
+ArePlacesOf (Copy c) places = AreFilesAlone None c.register (Some c.from) places
 
 -- the command is one that has no files, and that neither listens nor dials
 abbrev pub HasNoPlaces : Command → Type 0
@@ -370,6 +459,11 @@ HasNoPlaces (Append w) = ⊥
 HasNoPlaces (Tail t) = ⊥
 HasNoPlaces (Register r) = ⊥
 HasNoPlaces (Status s) = ⊥
+HasNoPlaces (Mend m) = ⊥
+HasNoPlaces (Replace r) = ⊥
+HasNoPlaces (Show s) = ⊥
+HasNoPlaces (Trim t) = ⊥
+HasNoPlaces (Copy c) = ⊥
 
 -- the arguments ask for a command of these places
 pub record AskForPlaces (words : List Text) (places : Places) : Type 0 where

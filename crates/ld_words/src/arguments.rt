@@ -1,13 +1,15 @@
 // The arguments of a command.
 ghost use Rattle.std.specs.Prelude.{◌≡◌, ℕ, true, None, Some, MatchResult, IfOk, option_map};
+ghost use Rattle.clap.specs.Walk.{Text};
 ghost use Rattle.clap.specs.Words.{rows_of, found_of, first_of};
 ghost use Rattle.ld_ids.specs.Set.{has_node};
 ghost use Rattle.ld_config.specs.Bounds.{IsInBounds};
 ghost use Rattle.ld_config.specs.declared.config.Config.{Config as Configuration};
-ghost use Rattle.ld_words.specs.Meaning.{IsNumber, IsNumberOr, IsLsn, IsMember, IsLogOf, Says, has_log, is_true};
+ghost use Rattle.ld_words.specs.Meaning.{AreFiles, IsNumber, IsNumberOr, IsLsn, IsMember, IsLogOf, Says, has_log, is_true};
 ghost use Rattle.ld_words.specs.Refuses.{Refuses};
 
 use crate::FileName;
+use crate::argument::Argument;
 use crate::number::spelt;
 use crate::refusal::Refusal;
 use clap::ArgMatches;
@@ -31,7 +33,9 @@ pub fn text<'a>(matches: &ArgMatches<'a>, name: &'static str) -> Result<&'a str,
 {
     match value(matches, name) {
         Some(text) => Ok(text),
-        None => Err(Refusal::Missing { name }),
+        None => Err(Refusal::Missing {
+            name: Argument::of(name),
+        }),
     }
 }
 
@@ -49,6 +53,22 @@ pub fn file_name(
     Ok(FileName::new(String::from_str(alloc, text)?))
 }
 
+/// The names of the store's and the register's file that the arguments are, which differ.
+pub fn files(alloc: Global, matches: &ArgMatches<'_>) -> Result<(FileName, FileName), Refusal>
+    ensures { MatchResult result
+        (λ f. AreFiles (rows_of (found_of matches.now)) f.0 f.1)
+        (Refuses ((store register : Text) → AreFiles (rows_of (found_of matches.now)) store register → ⊥)) }
+{
+    let store = file_name(alloc, matches, "store")?;
+    let register = file_name(alloc, matches, "register")?;
+    if store.as_str() == register.as_str() {
+        return Err(Refusal::OneFile {
+            name: Argument::of("store"),
+        });
+    }
+    Ok((store, register))
+}
+
 /// The number that an argument is, within bounds.
 pub fn number(
     matches: &ArgMatches<'_>,
@@ -63,7 +83,11 @@ pub fn number(
     let text = text(matches, name)?;
     match spelt(text, least, most) {
         Some(number) => Ok(number),
-        None => Err(Refusal::Number { name, least, most }),
+        None => Err(Refusal::Number {
+            name: Argument::of(name),
+            least,
+            most,
+        }),
     }
 }
 
@@ -83,7 +107,11 @@ pub fn number_or(
         None => Ok(otherwise),
         Some(text) => match spelt(text, least, most) {
             Some(number) => Ok(number),
-            None => Err(Refusal::Number { name, least, most }),
+            None => Err(Refusal::Number {
+                name: Argument::of(name),
+                least,
+                most,
+            }),
         },
     }
 }
@@ -97,7 +125,9 @@ pub fn lsn(matches: &ArgMatches<'_>, name: &'static str) -> Result<Lsn, Refusal>
     let text = text(matches, name)?;
     match Lsn::parse(text.as_bytes()) {
         Some(lsn) => Ok(lsn),
-        None => Err(Refusal::Lsn { name }),
+        None => Err(Refusal::Lsn {
+            name: Argument::of(name),
+        }),
     }
 }
 
@@ -128,12 +158,12 @@ pub fn config(alloc: Global, text: &str) -> Result<Config, Refusal>
 }
 
 /// The node of this number, among the configuration's nodes.
-pub fn member(number: u64, config: &Config) -> Result<NodeId, Refusal>
+pub fn member(name: &'static str, number: u64, config: &Config) -> Result<NodeId, Refusal>
     ensures { MatchResult result (λ node. (node ≡ number) × IsMember number config.now) (Refuses (IsMember number config.now → ⊥)) }
 {
     if number < 1 || number > 16 {
         return Err(Refusal::Number {
-            name: "id",
+            name: Argument::of(name),
             least: 1,
             most: 16,
         });
@@ -144,7 +174,10 @@ pub fn member(number: u64, config: &Config) -> Result<NodeId, Refusal>
     if config.nodes.has(node) {
         Ok(node)
     } else {
-        Err(Refusal::Stranger(node))
+        Err(Refusal::Stranger {
+            name: Argument::of(name),
+            node,
+        })
     }
 }
 
@@ -154,7 +187,7 @@ pub fn log_of(number: u64, config: &Config) -> Result<LogId, Refusal>
 {
     if number < 1 || number > 65_535 {
         return Err(Refusal::Number {
-            name: "log",
+            name: Argument::of("log"),
             least: 1,
             most: 65_535,
         });

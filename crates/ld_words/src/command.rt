@@ -25,6 +25,16 @@ pub enum Command {
     Register(RegisterWords),
     /// What the register and each node say of a log is written to standard output.
     Status(StatusWords),
+    /// A stopped node learns what it missed, and fetches what it lost.
+    Mend(MendWords),
+    /// A stopped node takes the place of one that is gone, in the closed epochs of a log.
+    Replace(ReplaceWords),
+    /// What the store of a stopped node says is written to standard output.
+    Show(ShowWords),
+    /// A log is trimmed.
+    Trim(TrimWords),
+    /// A register is copied to another place.
+    Copy(CopyWords),
 }
 
 /// What the arguments say of a node that serves.
@@ -140,6 +150,8 @@ pub struct RegisterWords {
     pub register: FileName,
     /// The first epoch that is told, 1 to 4,294,967,295.
     pub from: u32,
+    /// Whether each line is an object.
+    pub json: bool,
 }
 
 /// What the arguments say of a log of which the register and the nodes are asked.
@@ -157,18 +169,89 @@ pub struct StatusWords {
     pub limit: u32,
     /// How many of the last epochs are told, 1 to 1,000,000.
     pub epochs: u32,
+    /// Whether each line is an object.
+    pub json: bool,
+}
+
+/// What the arguments say of a stopped node that learns what it missed, and fetches what it lost.
+#[derive(Drop)]
+pub struct MendWords {
+    /// The node's number, which is among the configuration's nodes.
+    pub id: NodeId,
+    /// The configuration.
+    pub config: Config,
+    /// The file of the node's store.
+    pub store: FileName,
+    /// The file of the register of epochs, which has another name.
+    pub register: FileName,
+    /// Where the configuration's nodes are.
+    pub reach: Reach,
+    /// After how many rounds the command gives up, 1 to 1,000,000.
+    pub rounds: u32,
+    /// How many milliseconds a dial, a read or a write takes at most, 100 to 60,000.
+    pub limit: u32,
+}
+
+/// What the arguments say of a stopped node that takes the place of one that is gone.
+#[derive(Drop)]
+pub struct ReplaceWords {
+    /// The number of the node that takes the place, which is among the configuration's nodes.
+    pub id: NodeId,
+    /// The number of the node that is gone, which is another one of the configuration's nodes.
+    pub of: NodeId,
+    /// The configuration.
+    pub config: Config,
+    /// The log's number, which is among the configuration's logs.
+    pub log: LogId,
+    /// The file of the store of the node that takes the place.
+    pub store: FileName,
+    /// The file of the register of epochs, which has another name.
+    pub register: FileName,
+}
+
+/// What the arguments say of a stopped node whose store is shown.
+#[derive(Drop)]
+pub struct ShowWords {
+    /// The node's number, which is among the configuration's nodes.
+    pub id: NodeId,
+    /// The configuration.
+    pub config: Config,
+    /// The file of the node's store.
+    pub store: FileName,
+    /// Whether each line is an object.
+    pub json: bool,
+}
+
+/// What the arguments say of a log that is trimmed, and up to which number.
+#[derive(Drop)]
+pub struct TrimWords {
+    /// The log, and how it is reached.
+    pub of: LogWords,
+    /// The last number that is trimmed, from e0n1 on.
+    pub upto: Lsn,
+}
+
+/// What the arguments say of a register that is copied.
+#[derive(Drop)]
+pub struct CopyWords {
+    /// The file of the register that is copied.
+    pub from: FileName,
+    /// The place of the register that it is copied to, which has another name.
+    pub register: FileName,
 }
 
 /// The things of the environment that a command needs.
 #[derive(Drop)]
 pub struct Places {
-    /// The file of the node's store, where the command is a node.
+    /// The file of the node's store, where the command opens one.
     pub store: Option<FileName>,
-    /// The file of the register of epochs.
+    /// The file of the register of epochs. A command that only shows a store has none: the name is empty here.
     pub register: FileName,
-    /// Where the node listens. A command over a log doesn't: it has the port 0 here.
+    /// The file of the register that is copied to the other one, where the command does so.
+    pub copied: Option<FileName>,
+    /// Where the node listens. A command that doesn't has the port 0 here.
     pub listen: Listen,
-    /// Where the nodes of a log are. A node dials none: it has the port 0 here.
+    /// Where the nodes of a log are. A command that dials none has the port 0 here.
     pub reach: Reach,
     /// How many milliseconds a dial, a read or a write takes at most.
     pub limit: u32,

@@ -4,6 +4,7 @@ ghost use Rattle.clap.specs.Words.{rows_of, found_of};
 ghost use Rattle.ld_words.specs.Meaning.{IsRounds, IsUntil, IsPause, follows};
 ghost use Rattle.ld_words.specs.Refuses.{Refuses};
 
+use crate::argument::Argument;
 use crate::arguments::{flag, lsn, number, number_or};
 use crate::reach::is_given;
 use crate::refusal::Refusal;
@@ -41,8 +42,8 @@ pub fn until(matches: &ArgMatches<'_>) -> Result<Lsn, Refusal>
     }
     if is_given(matches, "until") {
         return Err(Refusal::Both {
-            one: "until",
-            other: "follow",
+            one: Argument::of("until"),
+            other: Argument::of("follow"),
         });
     }
     Ok(Lsn::from_u64(u64::MAX))
@@ -59,8 +60,8 @@ pub fn pause(matches: &ArgMatches<'_>) -> Result<u32, Refusal>
     }
     if is_given(matches, "pause") {
         return Err(Refusal::Without {
-            name: "pause",
-            other: "follow",
+            name: Argument::of("pause"),
+            other: Argument::of("follow"),
         });
     }
     Ok(0)

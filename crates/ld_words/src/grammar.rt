@@ -1,8 +1,9 @@
 // The commands and their arguments, as clap has them.
-ghost use Rattle.std.specs.Prelude.{◌≡◌, IfOk, MatchResult, false, map, string_bytes};
+ghost use Rattle.std.specs.Prelude.{◌≡◌, [], ◌∷◌, ◌++◌, IfOk, MatchResult, false, map, string_bytes};
+ghost use Rattle.clap.specs.Walk.{Rule};
 ghost use Rattle.clap.specs.Words.{app_of, rule_of, subcommand_rows_of};
 ghost use Rattle.clap.specs.Simple.{App, Shape, with_subcommand};
-ghost use Rattle.ld_words.specs.Grammar.{option_rule, choice_rule, flag_rule, exercise_shape, files_shape, node_shape, log_shape, append_shape, tail_shape, register_shape, status_shape, ld_app, found, IsCommand};
+ghost use Rattle.ld_words.specs.Grammar.{option_rule, choice_rule, flag_rule, exercise_shape, files_shape, node_shape, log_shape, append_shape, tail_shape, register_shape, status_shape, mend_shape, replace_shape, show_shape, trim_shape, ld_app, found, IsCommand};
 ghost use Rattle.ld_words.specs.Meaning.{IsNoCommand};
 ghost use Rattle.ld_words.specs.Refuses.{Refuses};
 
@@ -35,104 +36,176 @@ fn flag<'a>(alloc: Global, name: &'a str) -> Arg<'a>
     Arg::new(alloc, name).long(name).action(ArgAction::SetTrue)
 }
 
+/// The command with one argument more, where it could be made.
+#[tactic(auto, using(crate::proofs::Commands::with_one))]
+fn with<'a>(made: Result<Command<'a>, AllocError>, more: Arg<'a>) -> Result<Command<'a>, AllocError>
+    ensures { (shape : Shape) (rule : Rule) → IfOk made.entry (IsCommand shape) → rule_of more.entry ≡ rule → more.entry.global ≡ false → IfOk result (IsCommand (record shape { rules = shape.rules ++ rule ∷ [] })) }
+{
+    match made {
+        Ok(made) => made.arg(more),
+        Err(error) => {
+            drop(more);
+            Err(error)
+        }
+    }
+}
+
+/// The command with an option more, which has to be given.
+fn with_option<'a>(
+    made: Result<Command<'a>, AllocError>,
+    alloc: Global,
+    name: &'a str,
+) -> Result<Command<'a>, AllocError>
+    ensures { (shape : Shape) → IfOk made.entry (IsCommand shape) → IfOk result (IsCommand (record shape { rules = shape.rules ++ option_rule name.now ∷ [] })) }
+{
+    with(made, option(alloc, name))
+}
+
+/// The command with an option more, which may be left out.
+fn with_choice<'a>(
+    made: Result<Command<'a>, AllocError>,
+    alloc: Global,
+    name: &'a str,
+) -> Result<Command<'a>, AllocError>
+    ensures { (shape : Shape) → IfOk made.entry (IsCommand shape) → IfOk result (IsCommand (record shape { rules = shape.rules ++ choice_rule name.now ∷ [] })) }
+{
+    with(made, choice(alloc, name))
+}
+
+/// The command with a flag more.
+fn with_flag<'a>(
+    made: Result<Command<'a>, AllocError>,
+    alloc: Global,
+    name: &'a str,
+) -> Result<Command<'a>, AllocError>
+    ensures { (shape : Shape) → IfOk made.entry (IsCommand shape) → IfOk result (IsCommand (record shape { rules = shape.rules ++ flag_rule name.now ∷ [] })) }
+{
+    with(made, flag(alloc, name))
+}
+
 /// The command that runs a made schedule.
 fn exercise_command<'a>(alloc: Global) -> Result<Command<'a>, AllocError>
     ensures { IfOk result (IsCommand exercise_shape) }
 {
-    Command::new(alloc, "exercise")
-        .arg(option(alloc, "seed"))?
-        .arg(option(alloc, "events"))
+    let made = with_option(Ok(Command::new(alloc, "exercise")), alloc, "seed");
+    with_option(made, alloc, "events")
 }
 
-/// The command that serves a node, as far as the node's files.
-fn files_command<'a>(alloc: Global) -> Result<Command<'a>, AllocError>
-    ensures { IfOk result (IsCommand files_shape) }
+/// A command of this name over a node's files.
+fn files_command<'a>(alloc: Global, name: &'a str) -> Result<Command<'a>, AllocError>
+    ensures { IfOk result (IsCommand (files_shape name.now)) }
 {
-    Command::new(alloc, "node")
-        .arg(option(alloc, "id"))?
-        .arg(option(alloc, "config"))?
-        .arg(option(alloc, "store"))?
-        .arg(option(alloc, "register"))
+    let made = with_option(Ok(Command::new(alloc, name)), alloc, "id");
+    let made = with_option(made, alloc, "config");
+    let made = with_option(made, alloc, "store");
+    with_option(made, alloc, "register")
 }
 
 /// The command that serves a node.
 fn node_command<'a>(alloc: Global) -> Result<Command<'a>, AllocError>
     ensures { IfOk result (IsCommand node_shape) }
 {
-    files_command(alloc)?
-        .arg(choice(alloc, "port"))?
-        .arg(choice(alloc, "listen"))?
-        .arg(choice(alloc, "turns"))?
-        .arg(choice(alloc, "peers"))?
-        .arg(choice(alloc, "idle"))?
-        .arg(flag(alloc, "format"))?
-        .arg(flag(alloc, "quiet"))
+    let made = with_choice(files_command(alloc, "node"), alloc, "port");
+    let made = with_choice(made, alloc, "listen");
+    let made = with_choice(made, alloc, "turns");
+    let made = with_choice(made, alloc, "peers");
+    let made = with_choice(made, alloc, "idle");
+    let made = with_flag(made, alloc, "format");
+    with_flag(made, alloc, "quiet")
 }
 
 /// A command of this name over a log.
 fn log_command<'a>(alloc: Global, name: &'a str) -> Result<Command<'a>, AllocError>
     ensures { IfOk result (IsCommand (log_shape name.now)) }
 {
-    Command::new(alloc, name)
-        .arg(option(alloc, "config"))?
-        .arg(option(alloc, "log"))?
-        .arg(option(alloc, "register"))?
-        .arg(choice(alloc, "port"))?
-        .arg(choice(alloc, "at"))?
-        .arg(choice(alloc, "limit"))
+    let made = with_option(Ok(Command::new(alloc, name)), alloc, "config");
+    let made = with_option(made, alloc, "log");
+    let made = with_option(made, alloc, "register");
+    let made = with_choice(made, alloc, "port");
+    let made = with_choice(made, alloc, "at");
+    with_choice(made, alloc, "limit")
 }
 
 /// The command that appends to a log.
 fn append_command<'a>(alloc: Global) -> Result<Command<'a>, AllocError>
     ensures { IfOk result (IsCommand append_shape) }
 {
-    log_command(alloc, "append")?
-        .arg(option(alloc, "rounds"))?
-        .arg(choice(alloc, "in-flight"))?
-        .arg(flag(alloc, "batches"))?
-        .arg(flag(alloc, "move"))?
-        .arg(flag(alloc, "text"))
+    let made = with_option(log_command(alloc, "append"), alloc, "rounds");
+    let made = with_choice(made, alloc, "in-flight");
+    let made = with_flag(made, alloc, "batches");
+    let made = with_flag(made, alloc, "move");
+    with_flag(made, alloc, "text")
 }
 
 /// The command that reads a log.
 fn tail_command<'a>(alloc: Global) -> Result<Command<'a>, AllocError>
     ensures { IfOk result (IsCommand tail_shape) }
 {
-    log_command(alloc, "tail")?
-        .arg(choice(alloc, "rounds"))?
-        .arg(option(alloc, "from"))?
-        .arg(choice(alloc, "until"))?
-        .arg(choice(alloc, "pause"))?
-        .arg(flag(alloc, "follow"))?
-        .arg(flag(alloc, "one-copy"))?
-        .arg(flag(alloc, "messages"))?
-        .arg(flag(alloc, "text"))?
-        .arg(flag(alloc, "json"))
+    let made = with_choice(log_command(alloc, "tail"), alloc, "rounds");
+    let made = with_option(made, alloc, "from");
+    let made = with_choice(made, alloc, "until");
+    let made = with_choice(made, alloc, "pause");
+    let made = with_flag(made, alloc, "follow");
+    let made = with_flag(made, alloc, "one-copy");
+    let made = with_flag(made, alloc, "messages");
+    let made = with_flag(made, alloc, "text");
+    with_flag(made, alloc, "json")
 }
 
-/// The command that tells what the register says of a log.
+/// The command that tells what the register says of a log, or that copies it.
 fn register_command<'a>(alloc: Global) -> Result<Command<'a>, AllocError>
     ensures { IfOk result (IsCommand register_shape) }
 {
-    Command::new(alloc, "register")
-        .arg(option(alloc, "config"))?
-        .arg(option(alloc, "log"))?
-        .arg(option(alloc, "register"))?
-        .arg(choice(alloc, "from"))
+    let made = with_option(Ok(Command::new(alloc, "register")), alloc, "register");
+    let made = with_choice(made, alloc, "config");
+    let made = with_choice(made, alloc, "log");
+    let made = with_choice(made, alloc, "from");
+    let made = with_flag(made, alloc, "json");
+    with_choice(made, alloc, "copy")
 }
 
 /// The command that tells what the register and each node say of a log.
 fn status_command<'a>(alloc: Global) -> Result<Command<'a>, AllocError>
     ensures { IfOk result (IsCommand status_shape) }
 {
-    Command::new(alloc, "status")
-        .arg(option(alloc, "config"))?
-        .arg(option(alloc, "log"))?
-        .arg(option(alloc, "register"))?
-        .arg(choice(alloc, "port"))?
-        .arg(choice(alloc, "at"))?
-        .arg(choice(alloc, "limit"))?
-        .arg(choice(alloc, "epochs"))
+    let made = with_choice(log_command(alloc, "status"), alloc, "epochs");
+    with_flag(made, alloc, "json")
+}
+
+/// The command by which a stopped node learns what it missed.
+fn mend_command<'a>(alloc: Global) -> Result<Command<'a>, AllocError>
+    ensures { IfOk result (IsCommand mend_shape) }
+{
+    let made = with_choice(files_command(alloc, "mend"), alloc, "port");
+    let made = with_choice(made, alloc, "at");
+    let made = with_option(made, alloc, "rounds");
+    with_choice(made, alloc, "limit")
+}
+
+/// The command by which a stopped node takes another one's place.
+fn replace_command<'a>(alloc: Global) -> Result<Command<'a>, AllocError>
+    ensures { IfOk result (IsCommand replace_shape) }
+{
+    let made = with_option(files_command(alloc, "replace"), alloc, "of");
+    with_option(made, alloc, "log")
+}
+
+/// The command that shows the store of a stopped node.
+fn show_command<'a>(alloc: Global) -> Result<Command<'a>, AllocError>
+    ensures { IfOk result (IsCommand show_shape) }
+{
+    let made = with_option(Ok(Command::new(alloc, "show")), alloc, "id");
+    let made = with_option(made, alloc, "config");
+    let made = with_option(made, alloc, "store");
+    with_flag(made, alloc, "json")
+}
+
+/// The command that trims a log.
+fn trim_command<'a>(alloc: Global) -> Result<Command<'a>, AllocError>
+    ensures { IfOk result (IsCommand trim_shape) }
+{
+    let made = with_option(log_command(alloc, "trim"), alloc, "rounds");
+    with_option(made, alloc, "upto")
 }
 
 /// The commands with one more, where both could be made.
@@ -173,7 +246,11 @@ fn ld_command<'a>(alloc: Global) -> Result<Command<'a>, AllocError>
     let with_append = add(with_node, append_command(alloc));
     let with_tail = add(with_append, tail_command(alloc));
     let with_register = add(with_tail, register_command(alloc));
-    add(with_register, status_command(alloc))
+    let with_status = add(with_register, status_command(alloc));
+    let with_mend = add(with_status, mend_command(alloc));
+    let with_replace = add(with_mend, replace_command(alloc));
+    let with_show = add(with_replace, show_command(alloc));
+    add(with_show, trim_command(alloc))
 }
 
 /// What clap finds in the arguments.

@@ -14,6 +14,7 @@ ghost use Rattle.ld_words.specs.Meaning.{IsAddress, IsAddressIn, AreAddressesIn,
 ghost use Rattle.ld_words.specs.Refuses.{Refuses};
 ghost use Rattle.ld_words.specs.Bounds.{HasEach};
 
+use crate::argument::Argument;
 use crate::arguments::{number, text, value};
 use crate::cause::AddressesFault;
 use crate::host::port_of;
@@ -41,7 +42,9 @@ fn listen_address(alloc: Global, matches: &ArgMatches<'_>) -> Result<Address, Re
     let text = text(matches, "listen")?;
     match port_of(text) {
         Some(_) => Ok(Address::new(String::from_str(alloc, text)?)),
-        None => Err(Refusal::Address { name: "listen" }),
+        None => Err(Refusal::Address {
+            name: Argument::of("listen"),
+        }),
     }
 }
 
@@ -55,12 +58,12 @@ pub fn listen(alloc: Global, matches: &ArgMatches<'_>) -> Result<Listen, Refusal
         (true, false) => Ok(Listen::Port(number(matches, "port", 0, 65_535)? as u16)),
         (false, true) => Ok(Listen::At(listen_address(alloc, matches)?)),
         (true, true) => Err(Refusal::Both {
-            one: "port",
-            other: "listen",
+            one: Argument::of("port"),
+            other: Argument::of("listen"),
         }),
         (false, false) => Err(Refusal::Neither {
-            one: "port",
-            other: "listen",
+            one: Argument::of("port"),
+            other: Argument::of("listen"),
         }),
     }
 }
@@ -213,12 +216,12 @@ pub fn reach(alloc: Global, matches: &ArgMatches<'_>, nodes: &NodeSet) -> Result
         (true, false) => Ok(Reach::Above(number(matches, "port", 1, 65_519)? as u16)),
         (false, true) => Ok(Reach::At(at(alloc, matches, nodes)?)),
         (true, true) => Err(Refusal::Both {
-            one: "port",
-            other: "at",
+            one: Argument::of("port"),
+            other: Argument::of("at"),
         }),
         (false, false) => Err(Refusal::Neither {
-            one: "port",
-            other: "at",
+            one: Argument::of("port"),
+            other: Argument::of("at"),
         }),
     }
 }

@@ -1,5 +1,5 @@
 // The command that the arguments ask for.
-ghost use Rattle.std.specs.Prelude.{◌≡◌, ℕ, None, Some, IfOk, MatchOption, MatchResult, IfSome, codes, map, string_bytes};
+ghost use Rattle.std.specs.Prelude.{◌≡◌, ◌≤◌, ℕ, [], false, None, Some, IfOk, MatchOption, MatchResult, IfSome, codes, map, string_bytes};
 ghost use Rattle.clap.specs.Walk.{Text};
 ghost use Rattle.clap.specs.Words.{rows_of, found_of, first_of, subcommand_rows_of};
 ghost use Rattle.ld_config.specs.Bounds.{IsInBounds};
@@ -9,39 +9,30 @@ ghost use Rattle.ld_words.specs.declared.command.AppendWords.{AppendWords as App
 ghost use Rattle.ld_words.specs.declared.command.TailWords.{TailWords as Tail};
 ghost use Rattle.ld_words.specs.declared.command.RegisterWords.{RegisterWords as Looking};
 ghost use Rattle.ld_words.specs.declared.command.StatusWords.{StatusWords as Asking};
+ghost use Rattle.ld_words.specs.declared.command.TrimWords.{TrimWords as Trimming};
 ghost use Rattle.ld_words.specs.declared.command.Command.{Command as Choice};
-ghost use Rattle.ld_words.specs.Meaning.{IsExercise, AreFiles, IsTurns, IsNodeWords, IsLogWords, IsAppendWords, IsRange, IsTailWords, IsRegisterWords, IsStatusWords, is_true, style_of, shown_of, IsNamed, IsFound, Asks, IsNoCommand, ArePlacesOf, ArePlacesOfNode, ArePlacesOfLog, HasNoPlaces, AskForPlaces, AskForNoPlaces};
+ghost use Rattle.ld_words.specs.Meaning.{IsExercise, IsTurns, IsNodeWords, IsLsn, IsLogWords, IsAppendWords, IsRange, IsTailWords, IsRegisterWords, IsStatusWords, IsTrimWords, is_true, style_of, shown_of, IsNamed, IsFound, Asks, IsNoCommand, ArePlacesOf, ArePlacesOfNode, ArePlacesOfLog, AreFilesAlone, HasNoPlaces, AskForPlaces, AskForNoPlaces};
 ghost use Rattle.ld_words.specs.Refuses.{Refuses};
-ghost use Rattle.ld_words.specs.Bounds.{IsLogInBounds, IsAppendInBounds, IsTailInBounds, IsRegisterInBounds, IsStatusInBounds, HasBounds};
+ghost use Rattle.ld_words.specs.Bounds.{IsLogInBounds, IsAppendInBounds, IsTailInBounds, IsRegisterInBounds, IsStatusInBounds, IsTrimInBounds, HasBounds};
 
-use crate::arguments::{config, file_name, flag, log_of, lsn, member, number, number_or, text};
+use crate::argument::Argument;
+use crate::arguments::{file_name, files, flag, lsn, number, number_or};
+use crate::configured::{known_log, node_of};
+use crate::copying::copy_words;
 use crate::following::{pause, rounds, until};
 use crate::grammar::matches;
 use crate::reach::{is_given, listen, reach};
 use crate::refusal::Refusal;
+use crate::stopped::{mend_words, replace_words, show_words};
 use crate::{
     AppendWords, Command, Company, CrowdWords, FileName, Listen, LogWords, NodeWords, Places,
-    Reach, RegisterWords, Shown, StatusWords, TailWords,
+    Reach, RegisterWords, Shown, StatusWords, TailWords, TrimWords,
 };
 use clap::ArgMatches;
 use ld_ids::NoMemory;
 use ld_lsn::Lsn;
 use ld_msg::Style;
 use std::alloc::Global;
-
-/// The names of the store's and the register's file that the arguments are, which differ.
-fn files(alloc: Global, matches: &ArgMatches<'_>) -> Result<(FileName, FileName), Refusal>
-    ensures { MatchResult result
-        (λ f. AreFiles (rows_of (found_of matches.now)) f.0 f.1)
-        (Refuses ((store register : Text) → AreFiles (rows_of (found_of matches.now)) store register → ⊥)) }
-{
-    let store = file_name(alloc, matches, "store")?;
-    let register = file_name(alloc, matches, "register")?;
-    if store.as_str() == register.as_str() {
-        return Err(Refusal::OneFile);
-    }
-    Ok((store, register))
-}
 
 /// After how many turns a node ends.
 fn turns(matches: &ArgMatches<'_>) -> Result<u64, Refusal>
@@ -53,8 +44,8 @@ fn turns(matches: &ArgMatches<'_>) -> Result<u64, Refusal>
         (_, true) => number_or(matches, "turns", 1, 1_000_000_000, u64::MAX),
         (true, false) => number(matches, "turns", 1, 1_000_000_000),
         (false, false) => Err(Refusal::Neither {
-            one: "turns",
-            other: "peers",
+            one: Argument::of("turns"),
+            other: Argument::of("peers"),
         }),
     }
 }
@@ -66,9 +57,7 @@ fn node_words(alloc: Global, matches: &ArgMatches<'_>) -> Result<NodeWords, Refu
         (Refuses ((n : Node) → IsNodeWords (rows_of (found_of matches.now)) n → ⊥)) }
     ensures bounds { IfOk result (λ n. IsInBounds n.config) }
 {
-    let id = number(matches, "id", 1, 16)?;
-    let config = config(alloc, text(matches, "config")?)?;
-    let id = member(id, &config)?;
+    let (id, config) = node_of(alloc, matches)?;
     let (store, register) = files(alloc, matches)?;
     let listen = listen(alloc, matches)?;
     let turns = turns(matches)?;
@@ -94,15 +83,28 @@ fn node_command(alloc: Global, matches: &ArgMatches<'_>) -> Result<Command, Refu
     let node = node_words(alloc, matches)?;
     if !is_given(matches, "peers") {
         if is_given(matches, "idle") {
+            drop(node);
             return Err(Refusal::Without {
-                name: "idle",
-                other: "peers",
+                name: Argument::of("idle"),
+                other: Argument::of("peers"),
             });
         }
         return Ok(Command::Node(node));
     }
-    let peers = number(matches, "peers", 2, 1_000)?;
-    let idle = number_or(matches, "idle", 1, 86_400, 60)?;
+    let peers = match number(matches, "peers", 2, 1_000) {
+        Ok(peers) => peers,
+        Err(refusal) => {
+            drop(node);
+            return Err(refusal);
+        }
+    };
+    let idle = match number_or(matches, "idle", 1, 86_400, 60) {
+        Ok(idle) => idle,
+        Err(refusal) => {
+            drop(node);
+            return Err(refusal);
+        }
+    };
     Ok(Command::Crowd(CrowdWords {
         node,
         company: Company {
@@ -119,9 +121,7 @@ fn log_words(alloc: Global, matches: &ArgMatches<'_>) -> Result<LogWords, Refusa
         (Refuses ((w : Log) → IsLogWords (rows_of (found_of matches.now)) w → ⊥)) }
     ensures bounds { IfOk result IsLogInBounds }
 {
-    let log = number(matches, "log", 1, 65_535)?;
-    let config = config(alloc, text(matches, "config")?)?;
-    let log = log_of(log, &config)?;
+    let (log, config) = known_log(alloc, matches)?;
     let register = file_name(alloc, matches, "register")?;
     let reach = reach(alloc, matches, &config.nodes)?;
     let rounds = rounds(matches)?;
@@ -144,7 +144,13 @@ fn append_words(alloc: Global, matches: &ArgMatches<'_>) -> Result<AppendWords, 
     ensures bounds { IfOk result IsAppendInBounds }
 {
     let of = log_words(alloc, matches)?;
-    let in_flight = number_or(matches, "in-flight", 1, 128, 1)?;
+    let in_flight = match number_or(matches, "in-flight", 1, 128, 1) {
+        Ok(in_flight) => in_flight,
+        Err(refusal) => {
+            drop(of);
+            return Err(refusal);
+        }
+    };
     Ok(AppendWords {
         of,
         in_flight: in_flight as u32,
@@ -152,6 +158,31 @@ fn append_words(alloc: Global, matches: &ArgMatches<'_>) -> Result<AppendWords, 
         moves: flag(matches, "move"),
         text: flag(matches, "text"),
     })
+}
+
+/// The number up to which a log is trimmed.
+fn upto(matches: &ArgMatches<'_>) -> Result<Lsn, Refusal>
+    ensures { MatchResult result
+        (λ last. IsLsn (codes "upto") (rows_of (found_of matches.now)) last × (1 ≤ last))
+        (Refuses ((last : ℕ) → IsLsn (codes "upto") (rows_of (found_of matches.now)) last → 1 ≤ last → ⊥)) }
+{
+    let upto = lsn(matches, "upto")?;
+    if upto.value() < 1 {
+        return Err(Refusal::NoTrim);
+    }
+    Ok(upto)
+}
+
+/// What the arguments say of a log that is trimmed.
+fn trim_words(alloc: Global, matches: &ArgMatches<'_>) -> Result<TrimWords, Refusal>
+    ensures says { MatchResult result
+        (IsTrimWords (rows_of (found_of matches.now)))
+        (Refuses ((t : Trimming) → IsTrimWords (rows_of (found_of matches.now)) t → ⊥)) }
+    ensures bounds { IfOk result IsTrimInBounds }
+{
+    let upto = upto(matches)?;
+    let of = log_words(alloc, matches)?;
+    Ok(TrimWords { of, upto })
 }
 
 /// How payloads come, and are written.
@@ -179,8 +210,8 @@ fn form(matches: &ArgMatches<'_>) -> Result<Shown, Refusal>
         (true, false) => Ok(Shown::Text),
         (false, true) => Ok(Shown::Json),
         (true, true) => Err(Refusal::Both {
-            one: "text",
-            other: "json",
+            one: Argument::of("text"),
+            other: Argument::of("json"),
         }),
     }
 }
@@ -229,9 +260,7 @@ fn register_words(alloc: Global, matches: &ArgMatches<'_>) -> Result<RegisterWor
         (Refuses ((r : Looking) → IsRegisterWords (rows_of (found_of matches.now)) r → ⊥)) }
     ensures bounds { IfOk result IsRegisterInBounds }
 {
-    let log = number(matches, "log", 1, 65_535)?;
-    let config = config(alloc, text(matches, "config")?)?;
-    let log = log_of(log, &config)?;
+    let (log, config) = known_log(alloc, matches)?;
     let register = file_name(alloc, matches, "register")?;
     let from = number_or(matches, "from", 1, 4_294_967_295, 1)?;
     Ok(RegisterWords {
@@ -239,6 +268,7 @@ fn register_words(alloc: Global, matches: &ArgMatches<'_>) -> Result<RegisterWor
         log,
         register,
         from: from as u32,
+        json: flag(matches, "json"),
     })
 }
 
@@ -249,9 +279,7 @@ fn status_words(alloc: Global, matches: &ArgMatches<'_>) -> Result<StatusWords, 
         (Refuses ((s : Asking) → IsStatusWords (rows_of (found_of matches.now)) s → ⊥)) }
     ensures bounds { IfOk result IsStatusInBounds }
 {
-    let log = number(matches, "log", 1, 65_535)?;
-    let config = config(alloc, text(matches, "config")?)?;
-    let log = log_of(log, &config)?;
+    let (log, config) = known_log(alloc, matches)?;
     let register = file_name(alloc, matches, "register")?;
     let reach = reach(alloc, matches, &config.nodes)?;
     let limit = number_or(matches, "limit", 100, 60_000, 10_000)?;
@@ -263,6 +291,7 @@ fn status_words(alloc: Global, matches: &ArgMatches<'_>) -> Result<StatusWords, 
         reach,
         limit: limit as u32,
         epochs: epochs as u32,
+        json: flag(matches, "json"),
     })
 }
 
@@ -277,6 +306,100 @@ fn exercise(matches: &ArgMatches<'_>) -> Result<(u64, u32), Refusal>
     Ok((seed, events as u32))
 }
 
+/// The command that tells what the register says of a log, or that copies it where the arguments say from where.
+fn register_command(alloc: Global, matches: &ArgMatches<'_>) -> Result<Command, Refusal>
+    ensures means { MatchResult result
+        (IsNamed (codes "register") (rows_of (found_of matches.now)))
+        (Refuses ((c : Choice) → IsNamed (codes "register") (rows_of (found_of matches.now)) c → ⊥)) }
+    ensures bounds { IfOk result HasBounds }
+{
+    if is_given(matches, "copy") {
+        return Ok(Command::Copy(copy_words(alloc, matches)?));
+    }
+    Ok(Command::Register(register_words(alloc, matches)?))
+}
+
+/// The command that runs a made schedule.
+fn exercise_command(matches: &ArgMatches<'_>) -> Result<Command, Refusal>
+    ensures means { MatchResult result
+        (IsNamed (codes "exercise") (rows_of (found_of matches.now)))
+        (Refuses ((c : Choice) → IsNamed (codes "exercise") (rows_of (found_of matches.now)) c → ⊥)) }
+    ensures bounds { IfOk result HasBounds }
+{
+    let (seed, events) = exercise(matches)?;
+    Ok(Command::Exercise { seed, events })
+}
+
+/// The command that appends to a log.
+fn append_command(alloc: Global, matches: &ArgMatches<'_>) -> Result<Command, Refusal>
+    ensures means { MatchResult result
+        (IsNamed (codes "append") (rows_of (found_of matches.now)))
+        (Refuses ((c : Choice) → IsNamed (codes "append") (rows_of (found_of matches.now)) c → ⊥)) }
+    ensures bounds { IfOk result HasBounds }
+{
+    Ok(Command::Append(append_words(alloc, matches)?))
+}
+
+/// The command that reads a log.
+fn tail_command(alloc: Global, matches: &ArgMatches<'_>) -> Result<Command, Refusal>
+    ensures means { MatchResult result
+        (IsNamed (codes "tail") (rows_of (found_of matches.now)))
+        (Refuses ((c : Choice) → IsNamed (codes "tail") (rows_of (found_of matches.now)) c → ⊥)) }
+    ensures bounds { IfOk result HasBounds }
+{
+    Ok(Command::Tail(tail_words(alloc, matches)?))
+}
+
+/// The command that tells what the register and each node say of a log.
+fn status_command(alloc: Global, matches: &ArgMatches<'_>) -> Result<Command, Refusal>
+    ensures means { MatchResult result
+        (IsNamed (codes "status") (rows_of (found_of matches.now)))
+        (Refuses ((c : Choice) → IsNamed (codes "status") (rows_of (found_of matches.now)) c → ⊥)) }
+    ensures bounds { IfOk result HasBounds }
+{
+    Ok(Command::Status(status_words(alloc, matches)?))
+}
+
+/// The command by which a stopped node learns what it missed.
+fn mend_command(alloc: Global, matches: &ArgMatches<'_>) -> Result<Command, Refusal>
+    ensures means { MatchResult result
+        (IsNamed (codes "mend") (rows_of (found_of matches.now)))
+        (Refuses ((c : Choice) → IsNamed (codes "mend") (rows_of (found_of matches.now)) c → ⊥)) }
+    ensures bounds { IfOk result HasBounds }
+{
+    Ok(Command::Mend(mend_words(alloc, matches)?))
+}
+
+/// The command by which a stopped node takes another one's place.
+fn replace_command(alloc: Global, matches: &ArgMatches<'_>) -> Result<Command, Refusal>
+    ensures means { MatchResult result
+        (IsNamed (codes "replace") (rows_of (found_of matches.now)))
+        (Refuses ((c : Choice) → IsNamed (codes "replace") (rows_of (found_of matches.now)) c → ⊥)) }
+    ensures bounds { IfOk result HasBounds }
+{
+    Ok(Command::Replace(replace_words(alloc, matches)?))
+}
+
+/// The command that shows the store of a stopped node.
+fn show_command(alloc: Global, matches: &ArgMatches<'_>) -> Result<Command, Refusal>
+    ensures means { MatchResult result
+        (IsNamed (codes "show") (rows_of (found_of matches.now)))
+        (Refuses ((c : Choice) → IsNamed (codes "show") (rows_of (found_of matches.now)) c → ⊥)) }
+    ensures bounds { IfOk result HasBounds }
+{
+    Ok(Command::Show(show_words(alloc, matches)?))
+}
+
+/// The command that trims a log.
+fn trim_command(alloc: Global, matches: &ArgMatches<'_>) -> Result<Command, Refusal>
+    ensures means { MatchResult result
+        (IsNamed (codes "trim") (rows_of (found_of matches.now)))
+        (Refuses ((c : Choice) → IsNamed (codes "trim") (rows_of (found_of matches.now)) c → ⊥)) }
+    ensures bounds { IfOk result HasBounds }
+{
+    Ok(Command::Trim(trim_words(alloc, matches)?))
+}
+
 /// The command of this name, with these arguments.
 fn named(alloc: Global, name: &str, matches: &ArgMatches<'_>) -> Result<Command, Refusal>
     ensures means { MatchResult result
@@ -288,23 +411,34 @@ fn named(alloc: Global, name: &str, matches: &ArgMatches<'_>) -> Result<Command,
         return Ok(Command::Replay);
     }
     if name == "exercise" {
-        let (seed, events) = exercise(matches)?;
-        return Ok(Command::Exercise { seed, events });
+        return exercise_command(matches);
     }
     if name == "node" {
         return node_command(alloc, matches);
     }
     if name == "append" {
-        return Ok(Command::Append(append_words(alloc, matches)?));
+        return append_command(alloc, matches);
     }
     if name == "tail" {
-        return Ok(Command::Tail(tail_words(alloc, matches)?));
+        return tail_command(alloc, matches);
     }
     if name == "register" {
-        return Ok(Command::Register(register_words(alloc, matches)?));
+        return register_command(alloc, matches);
     }
     if name == "status" {
-        return Ok(Command::Status(status_words(alloc, matches)?));
+        return status_command(alloc, matches);
+    }
+    if name == "mend" {
+        return mend_command(alloc, matches);
+    }
+    if name == "replace" {
+        return replace_command(alloc, matches);
+    }
+    if name == "show" {
+        return show_command(alloc, matches);
+    }
+    if name == "trim" {
+        return trim_command(alloc, matches);
     }
     Err(Refusal::Unknown)
 }
@@ -349,7 +483,7 @@ pub fn read(alloc: Global, words: &[String]) -> Result<Option<Command>, NoMemory
 }
 
 /// The files of a command that has some, and where it listens or dials.
-fn places_of(command: Command) -> Option<Places>
+fn places_of(alloc: Global, command: Command) -> Option<Places>
     ensures { MatchOption result (HasNoPlaces command) (ArePlacesOf command) }
 {
     match command {
@@ -358,25 +492,26 @@ fn places_of(command: Command) -> Option<Places>
         Command::Crowd(words) => Some(node_places(words.node, Some(words.company))),
         Command::Append(words) => Some(log_places(words.of)),
         Command::Tail(words) => Some(log_places(words.of)),
-        Command::Register(words) => Some(Places {
-            store: None,
-            register: words.register,
-            listen: Listen::Port(0),
-            reach: Reach::Above(0),
-            limit: 10_000,
-            company: None,
-            quiet: false,
-        }),
-        Command::Status(words) => Some(Places {
-            store: None,
-            register: words.register,
-            listen: Listen::Port(0),
-            reach: words.reach,
-            limit: words.limit,
-            company: None,
-            quiet: false,
-        }),
+        Command::Register(words) => Some(files_alone(None, words.register, None)),
+        Command::Status(words) => Some(dialing(None, words.register, words.reach, words.limit)),
+        Command::Mend(words) => Some(dialing(
+            Some(words.store),
+            words.register,
+            words.reach,
+            words.limit,
+        )),
+        Command::Replace(words) => Some(files_alone(Some(words.store), words.register, None)),
+        Command::Show(words) => Some(files_alone(Some(words.store), no_file(alloc), None)),
+        Command::Trim(words) => Some(log_places(words.of)),
+        Command::Copy(words) => Some(files_alone(None, words.register, Some(words.from))),
     }
+}
+
+/// The name that is empty.
+fn no_file(alloc: Global) -> FileName
+    ensures { result ≡ [] }
+{
+    FileName::new(String::new(alloc))
 }
 
 /// The files of a node, where it listens, its peers, where it serves several at once, and whether it is quiet.
@@ -387,6 +522,7 @@ fn node_places(node: NodeWords, company: Option<Company>) -> Places
     Places {
         store: Some(node.store),
         register: node.register,
+        copied: None,
         listen: node.listen,
         reach: Reach::Above(0),
         limit: 10_000,
@@ -399,12 +535,41 @@ fn node_places(node: NodeWords, company: Option<Company>) -> Places
 fn log_places(words: LogWords) -> Places
     ensures { ArePlacesOfLog words result }
 {
+    dialing(None, words.register, words.reach, words.limit)
+}
+
+/// The files of a command that dials nodes, and where they are.
+fn dialing(store: Option<FileName>, register: FileName, reach: Reach, limit: u32) -> Places
+    ensures store { result.store ≡ store }
+    ensures register { result.register ≡ register }
+    ensures copied { result.copied ≡ None }
+    ensures reach { result.reach ≡ reach }
+    ensures limit { result.limit ≡ limit }
+    ensures quiet { result.quiet ≡ false }
+{
     Places {
-        store: None,
-        register: words.register,
+        store,
+        register,
+        copied: None,
         listen: Listen::Port(0),
-        reach: words.reach,
-        limit: words.limit,
+        reach,
+        limit,
+        company: None,
+        quiet: false,
+    }
+}
+
+/// The files of a command that neither listens nor dials.
+fn files_alone(store: Option<FileName>, register: FileName, copied: Option<FileName>) -> Places
+    ensures { AreFilesAlone store register copied result }
+{
+    Places {
+        store,
+        register,
+        copied,
+        listen: Listen::Port(0),
+        reach: Reach::Above(0),
+        limit: 10_000,
         company: None,
         quiet: false,
     }
@@ -416,15 +581,25 @@ pub fn places(alloc: Global, words: &[String]) -> Result<Option<Places>, NoMemor
     ensures { IfOk result (λ places. MatchOption places (AskForNoPlaces (map string_bytes words.now)) (AskForPlaces (map string_bytes words.now))) }
 {
     match read(alloc, words)? {
-        Some(command) => Ok(places_of(command)),
+        Some(command) => Ok(places_of(alloc, command)),
         None => Ok(None),
     }
+}
+
+/// The text of a refusal.
+fn told(alloc: Global, refusal: Refusal) -> Result<String, NoMemory> {
+    let text = refusal.text(alloc);
+    drop(refusal);
+    Ok(text?)
 }
 
 /// A text for a person that says why the arguments ask for no command. It is empty where they ask for one.
 pub fn reason(alloc: Global, words: &[String]) -> Result<String, NoMemory> {
     match try_read(alloc, words) {
-        Ok(_) => Ok(String::new(alloc)),
-        Err(refusal) => Ok(refusal.text(alloc)?),
+        Ok(command) => {
+            drop(command);
+            Ok(String::new(alloc))
+        }
+        Err(refusal) => told(alloc, refusal),
     }
 }

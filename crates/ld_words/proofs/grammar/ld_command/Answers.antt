@@ -16,4 +16,8 @@ returns c =
     let s4 = c.add-with_append.ensures _ _ s3 c.append_command.ensures in
     let s5 = c.add-with_tail.ensures _ _ s4 c.tail_command.ensures in
     let s6 = c.add-with_register.ensures _ _ s5 c.register_command.ensures in
-    c.add.ensures _ _ s6 c.status_command.ensures
+    let s7 = c.add-with_status.ensures _ _ s6 c.status_command.ensures in
+    let s8 = c.add-with_mend.ensures _ _ s7 c.mend_command.ensures in
+    let s9 = c.add-with_replace.ensures _ _ s8 c.replace_command.ensures in
+    let s10 = c.add-with_show.ensures _ _ s9 c.show_command.ensures in
+    c.add.ensures _ _ s10 c.trim_command.ensures

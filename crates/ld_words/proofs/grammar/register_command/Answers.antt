@@ -1,17 +1,10 @@
-use Rattle.std.proofs.Common.{rules, codes, ◌≡◌}
-use Rattle.std.proofs.lemmas.Result.{IfOk-weaker}
-use Rattle.clap.specs.Walk.{rule_of}
-use Rattle.ld_words.specs.Grammar.{option_rule, choice_rule}
-use Rattle.ld_words.proofs.Commands.{with_argument}
 use Rattle.ld_words.proofs.grammar.register_command.Goals as goal
 
 pub returns : goal.returns
 returns c =
-    let config_is : rule_of c.option.result ≡ option_rule (codes "config") = search rules in
-    let log_is : rule_of c.option-2.result ≡ option_rule (codes "log") = search rules in
-    let register_is : rule_of c.option-3.result ≡ option_rule (codes "register") = search rules in
-    let from_is : rule_of c.choice.result ≡ choice_rule (codes "from") = search rules in
-    let k1 = with_argument _ _ _ _ _ c.in_ok-arg.ensures (record { app = c.new.ensures.app; own = c.new.ensures.local }) config_is c.option.ensures.own in
-    let k2 = with_argument _ _ _ _ _ c.in_ok-arg-2.ensures k1 log_is c.option-2.ensures.own in
-    let k3 = with_argument _ _ _ _ _ c.in_ok-arg-3.ensures k2 register_is c.option-3.ensures.own in
-    IfOk-weaker c.arg-4.result _ _ (λ r h. let k4 = with_argument _ _ r _ _ h k3 from_is c.choice.ensures.own in k4) c.arg-4.ensures
+    let k1 = c.with_option-made.ensures _ (record { app = c.new.ensures.app; own = c.new.ensures.local }) in
+    let k2 = c.with_choice-made.ensures _ k1 in
+    let k3 = c.with_choice-made-2.ensures _ k2 in
+    let k4 = c.with_choice-made-3.ensures _ k3 in
+    let k5 = c.with_flag-made.ensures _ k4 in
+    c.with_choice.ensures _ k5

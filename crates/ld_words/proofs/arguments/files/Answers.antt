@@ -2,7 +2,7 @@ use Rattle.clap.specs.Walk.{Text}
 use Rattle.clap.specs.Words.{rows_of, found_of}
 use Rattle.ld_words.specs.Meaning.{AreFiles}
 use Rattle.ld_words.proofs.Refused.{refused, not_none}
-use Rattle.ld_words.proofs.words.files.Goals as goal
+use Rattle.ld_words.proofs.arguments.files.Goals as goal
 
 pub returns-in_err-store : goal.returns-in_err-store
 returns-in_err-store c =

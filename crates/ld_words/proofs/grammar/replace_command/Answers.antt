@@ -1,0 +1,6 @@
+use Rattle.ld_words.proofs.grammar.replace_command.Goals as goal
+
+pub returns : goal.returns
+returns c =
+    let k1 = c.with_option-made.ensures _ c.files_command.ensures in
+    c.with_option.ensures _ k1
