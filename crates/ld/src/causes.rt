@@ -47,6 +47,7 @@ pub fn tell_early(rt: &HostRuntime, words: &[String], status: &Status) -> Result
     tell_status(rt, status)?;
     match status {
         Status::Usage => tell_usage(rt, words),
+        Status::Write => tell_write(rt),
         _ => tell_memory(rt),
     }
 }
@@ -59,6 +60,11 @@ pub fn tell_one_file(rt: &HostRuntime) -> Result<()> {
     )
 }
 
+/// Writes to standard error that the register's file wasn't there, and was made.
+pub fn tell_made(rt: &HostRuntime, path: &str) -> Result<()> {
+    eprintln!(rt; "ld: a new register was made: {path}")
+}
+
 /// Writes a status to standard error.
 pub fn tell_status(rt: &HostRuntime, status: &Status) -> Result<()> {
     eprintln!(rt; "ld: status {}", status.code())
@@ -66,6 +72,10 @@ pub fn tell_status(rt: &HostRuntime, status: &Status) -> Result<()> {
 
 fn tell_memory(rt: &HostRuntime) -> Result<()> {
     eprintln!(rt; "ld: out of memory")
+}
+
+fn tell_write(rt: &HostRuntime) -> Result<()> {
+    eprintln!(rt; "ld: writing standard output failed")
 }
 
 /// Writes the status to standard error, and its cause in plain words.
@@ -80,7 +90,7 @@ pub fn tell(rt: &HostRuntime, status: &Status, found: &Found<'_, '_>) -> Result<
         Status::BadSchedule { line, place } => tell_line(rt, *line, *place, found),
         Status::NoMemory => tell_memory(rt),
         Status::Read => eprintln!(rt; "ld: reading standard input failed"),
-        Status::Write => eprintln!(rt; "ld: writing standard output failed"),
+        Status::Write => tell_write(rt),
         Status::Disk => eprintln!(rt;
             "ld: the store's file {} failed: {}",
             store_of(found.places),
@@ -95,10 +105,7 @@ pub fn tell(rt: &HostRuntime, status: &Status, found: &Found<'_, '_>) -> Result<
             file_of(*which, found.places),
             name_of(*which)
         ),
-        Status::Blank => eprintln!(rt;
-            "ld: the store's file {} isn't formatted: is it the right one? --format formats it, for a node that has kept nothing yet",
-            store_of(found.places)
-        ),
+        Status::Blank => tell_blank(rt, found),
         Status::JournalFull(which) => eprintln!(rt;
             "ld: the {}'s journal is full: it has at most 2^40 bytes",
             name_of(*which)
@@ -115,16 +122,35 @@ pub fn tell(rt: &HostRuntime, status: &Status, found: &Found<'_, '_>) -> Result<
         ),
         Status::EpochLimit => eprintln!(rt; "ld: the log's epochs are used up"),
         Status::EpochFull => eprintln!(rt; "ld: the epoch is full: it has 2^32-2 places"),
-        Status::Moves { from, to } => tell_move(rt, from, to),
+        Status::SwapLimit => eprintln!(rt;
+            "ld: nodes of this log have taken others' places 2^32-1 times, which is all that there are"
+        ),
+        Status::Moves { from, to } => tell_move(rt, found.words, from, to),
     }
 }
 
-/// Tells that an `append` would move its log.
-fn tell_move(rt: &HostRuntime, from: &Spec, to: &Spec) -> Result<()> {
+/// Tells that a store isn't formatted.
+fn tell_blank(rt: &HostRuntime, found: &Found<'_, '_>) -> Result<()> {
+    let by = if is_command(found.words, "node") {
+        ""
+    } else {
+        "`ld node` with "
+    };
+    eprintln!(rt;
+        "ld: the store's file {} isn't formatted: is it the right one? {by}--format formats it, for a node that has kept nothing yet",
+        store_of(found.places)
+    )
+}
+
+/// Tells that an `append` or a `trim` would move its log.
+fn tell_move(rt: &HostRuntime, words: &[String], from: &Spec, to: &Spec) -> Result<()> {
     eprint!(rt; "ld: the log's greatest epoch has")?;
     tell_spec(rt, from)?;
     eprint!(rt; ", and the configuration says")?;
     tell_spec(rt, to)?;
+    if is_command(words, "trim") {
+        return eprintln!(rt; ": a trim doesn't move a log; `ld append` with --move does");
+    }
     eprintln!(rt; ": with --move the next epoch has what the configuration says")
 }
 
@@ -162,8 +188,13 @@ ld:        ld exercise --seed N --events M
 ld:        ld node --id N --config TEXT --store FILE --register FILE (--port P | --listen HOST:PORT) (--turns K | --peers N [--idle S] [--turns K]) [--format] [--quiet]
 ld:        ld append --config TEXT --log L --register FILE (--port P | --at TEXT) --rounds K [--limit MS] [--in-flight W] [--batches] [--move] [--text] < PAYLOADS
 ld:        ld tail --config TEXT --log L --register FILE (--port P | --at TEXT) [--limit MS] --from LSN (--until LSN --rounds K | --follow [--pause MS] [--rounds K]) [--one-copy | --messages] [--text | --json]
-ld:        ld register --config TEXT --log L --register FILE [--from E]
-ld:        ld status --config TEXT --log L --register FILE (--port P | --at TEXT) [--limit MS] [--epochs K]";
+ld:        ld trim --config TEXT --log L --register FILE (--port P | --at TEXT) --rounds K [--limit MS] --upto LSN
+ld:        ld register --config TEXT --log L --register FILE [--from E] [--json]
+ld:        ld register --copy FILE --register etcd:PLACE[,PLACE..]/PREFIX
+ld:        ld status --config TEXT --log L --register FILE (--port P | --at TEXT) [--limit MS] [--epochs K] [--json]
+ld:        ld show --id N --config TEXT --store FILE [--json]
+ld:        ld mend --id N --config TEXT --store FILE --register FILE (--port P | --at TEXT) --rounds K [--limit MS]
+ld:        ld replace --id M --of N --config TEXT --log L --store FILE --register FILE";
 
 /// Whether the arguments begin with this command's name.
 fn is_command(words: &[String], name: &str) -> bool {
@@ -238,12 +269,23 @@ fn tell_node(rt: &HostRuntime, before: &str, node: u8, reach: &Reach) -> Result<
     }
 }
 
+/// What isn't done after all rounds.
+fn undone(words: &[String]) -> &'static str {
+    if is_command(words, "trim") {
+        return "the log isn't trimmed so far at each node";
+    }
+    if is_command(words, "mend") {
+        return "the node still lacks what standard output says";
+    }
+    "not done in these rounds"
+}
+
 /// Tells which nodes didn't answer, and where they are.
 fn tell_nodes(rt: &HostRuntime, found: &Found<'_, '_>) -> Result<()> {
     let mut before = if is_command(found.words, "status") {
         "ld: no answer from"
     } else {
-        eprint!(rt; "ld: not done in these rounds: calls to nodes failed")?;
+        eprint!(rt; "ld: {}: calls to nodes failed", undone(found.words))?;
         ": no answer from"
     };
     for node in 1..17u8 {
@@ -258,7 +300,15 @@ fn tell_nodes(rt: &HostRuntime, found: &Found<'_, '_>) -> Result<()> {
 
 /// Tells what a run waits for that reached each node and isn't done.
 fn tell_waiting(rt: &HostRuntime, words: &[String]) -> Result<()> {
-    eprintln!(rt; "ld: not done in these rounds, though no call to a node failed")?;
+    eprintln!(rt; "ld: {}, though no call to a node failed", undone(words))?;
+    if is_command(words, "trim") {
+        return eprintln!(rt; "ld: more --rounds may help");
+    }
+    if is_command(words, "mend") {
+        return eprintln!(rt;
+            "ld: more --rounds fetch more; an open epoch can be fetched once an `ld append` has closed it"
+        );
+    }
     if is_command(words, "tail") {
         let until = word_behind(words, "--until");
         let upto = if until.is_empty() {

@@ -38,3 +38,10 @@ pub fn tell_place(rt: &HostRuntime, fault: PlaceFault) -> Result<()> {
 pub fn tell_no_mark(rt: &HostRuntime) -> Result<()> {
     eprintln!(rt; "ld: the register failed: the system gives no random bytes")
 }
+
+/// Tells that a register is copied to one in etcd alone.
+pub fn tell_no_place(rt: &HostRuntime, name: &str) -> Result<()> {
+    eprintln!(rt;
+        "ld: invalid arguments: --register is {name}, and a register is copied to one in etcd alone: --register etcd:PLACE[,PLACE..]/PREFIX"
+    )
+}

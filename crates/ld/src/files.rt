@@ -1,7 +1,10 @@
 // The files that a command names.
-use ld_words::Places;
+use ld_io::NoMemory;
+use ld_real::FileDisk;
+use ld_words::{Command, Places, read};
 use std::fs;
-use std::fs::Metadata;
+use std::fs::{File, Metadata};
+use std::io::ErrorKind;
 use std::os::unix::fs::MetadataExt;
 use std::path::Path;
 
@@ -13,12 +16,34 @@ pub fn store_of(places: &Places) -> &str {
     }
 }
 
+/// Whether the command is for the store of a stopped node, which has one.
+fn is_stopped(rt: &HostRuntime, words: &[String]) -> Result<bool, NoMemory> {
+    match read(rt.alloc(), words) {
+        Ok(Some(Command::Mend(_) | Command::Replace(_) | Command::Show(_))) => Ok(true),
+        Ok(_) => Ok(false),
+        Err(_) => Err(NoMemory),
+    }
+}
+
+/// The store's disk. A node that serves makes a file that isn't there; for a stopped one it fails.
+pub fn disk_of<'a>(
+    rt: &'a HostRuntime,
+    words: &[String],
+    places: &'a Places,
+) -> Result<FileDisk<'a, HostRuntime, File>, NoMemory> {
+    if is_stopped(rt, words)? {
+        return Ok(FileDisk::there(rt, store_of(places)));
+    }
+    FileDisk::new(rt.alloc(), rt, store_of(places))
+}
+
 /// Whether the store and the register are one file, by whatever paths. Where neither is there yet, a symbolic link may name
-/// the other one once that is made: it counts as that.
+/// the other one once that is made: it counts as that. A command that only shows a store has no register.
 pub fn are_one_file(rt: &HostRuntime, places: &Places) -> bool {
+    let register = places.register.as_str();
     match &places.store {
-        Some(store) => is_one_file(rt, store.as_str(), places.register.as_str()),
-        None => false,
+        Some(store) if !register.is_empty() => is_one_file(rt, store.as_str(), register),
+        _ => false,
     }
 }
 
@@ -28,6 +53,14 @@ fn is_one_file(rt: &HostRuntime, one: &str, other: &str) -> bool {
         (Ok(one), Ok(other)) => is_same(&one, &other),
         (Err(_), Err(_)) => is_link(rt, one) || is_link(rt, other) || is_one_name(rt, one, other),
         _ => false,
+    }
+}
+
+/// Whether nothing has this path.
+pub fn is_missing(rt: &HostRuntime, path: &str) -> bool {
+    match fs::metadata(rt, path) {
+        Ok(_) => false,
+        Err(error) => error.kind() == ErrorKind::NotFound,
     }
 }
 

@@ -1,4 +1,4 @@
-// An `append` whose configuration would move its log.
+// An `append` or a `trim` whose configuration would move its log.
 use ld_cli::{Status, Which};
 use ld_config::Config;
 use ld_ids::{LogId, Spec};
@@ -34,11 +34,13 @@ fn hold<G: Register>(alloc: Global, words: &LogWords, reg: &mut G) -> Option<Sta
     }
 }
 
-/// Looks whether an `append` that the arguments ask for without `--move` would move its log. A status where it isn't to be
-/// begun. The look changes nothing of the register.
+/// Looks whether a `trim` that the arguments ask for, or an `append` without `--move`, would move its log: both take the log
+/// over, with an epoch of what the configuration says. A status where it isn't to be begun. The look changes nothing of the
+/// register.
 pub fn held_back<G: Register>(alloc: Global, words: &[String], reg: &mut G) -> Option<Status> {
     match read(alloc, words) {
         Ok(Some(Command::Append(append))) if !append.moves => hold(alloc, &append.of, reg),
+        Ok(Some(Command::Trim(trim))) => hold(alloc, &trim.of, reg),
         Ok(_) => None,
         Err(_) => Some(Status::NoMemory),
     }

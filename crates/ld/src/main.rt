@@ -2,6 +2,7 @@
 #![tactic(auto)]
 
 mod causes;
+mod copies;
 mod crowds;
 mod etcd_causes;
 mod files;
@@ -12,16 +13,17 @@ mod registers;
 mod texts;
 
 use causes::{Found, tell, tell_early, tell_not_listening, tell_one_file, tell_status};
+use copies::make_copy;
 use crowds::{gathering, is_by_port};
-use etcd_causes::{tell_no_mark, tell_place};
-use files::{are_one_file, store_of};
+use etcd_causes::{tell_no_mark, tell_no_place, tell_place};
+use files::{are_one_file, disk_of};
 use guard::held_back;
 use ld_cli::{Status, run};
 use ld_dial::Framed;
-use ld_etcd::{Cause, PlaceFault, place_of};
+use ld_etcd::{Cause, Place, PlaceFault, place_of};
 use ld_hints::Recent;
 use ld_ready::Ready;
-use ld_real::{Announced, AnnouncedCrowd, FileDisk, StdSink, StdSource, TcpCrowd, TcpLink, Tried};
+use ld_real::{Announced, AnnouncedCrowd, StdSink, StdSource, TcpCrowd, TcpLink, Tried};
 use ld_text::{Form, ShownSink, TextSource};
 use ld_words::{FileName, Listen, Places, Reach, places};
 use places::{addresses_of, dialing, listening, listening_text};
@@ -66,6 +68,7 @@ fn perform(rt: &HostRuntime, words: &[String]) -> Status {
     let places = places.unwrap_or(Places {
         store: None,
         register: FileName::new(String::new(alloc)),
+        copied: None,
         listen: Listen::Port(0),
         reach: Reach::Above(0),
         limit: 0,
@@ -76,7 +79,23 @@ fn perform(rt: &HostRuntime, words: &[String]) -> Status {
         let _ = tell_one_file(rt);
         return Status::Usage;
     }
-    carry_out(rt, words, &places)
+    match &places.copied {
+        Some(from) => copy_into(rt, from.as_str(), places.register.as_str()),
+        None => carry_out(rt, words, &places),
+    }
+}
+
+/// Makes the changes of a register's file in the register of the other name, which is one in etcd.
+fn copy_into(rt: &HostRuntime, from: &str, to: &str) -> Status {
+    match place_in_etcd(rt, to) {
+        Ok(Some(place)) => make_copy(rt, from, to, place),
+        Ok(None) => {
+            let _ = tell_status(rt, &Status::Usage);
+            let _ = tell_no_place(rt, to);
+            Status::Usage
+        }
+        Err(status) => status,
+    }
 }
 
 /// What is known of the calls that failed.
@@ -140,7 +159,7 @@ fn call<I: Ready>(
     input: &mut I,
 ) -> Result<(Status, Failures), Status> {
     let alloc = rt.alloc();
-    let Ok(mut disk) = FileDisk::new(alloc, rt, store_of(places)) else {
+    let Ok(mut disk) = disk_of(rt, words, places) else {
         return Err(ends_early(rt, words, Status::NoMemory));
     };
     let Ok(text) = String::from_str(alloc, listening_text(&places.listen)) else {
@@ -169,7 +188,7 @@ fn call<I: Ready>(
         watcher(rt, places),
         text,
     );
-    let mut register = register_of(rt, places.register.as_str())?;
+    let mut register = register_of(rt, places)?;
     let dialing = dialing(&places.reach, &addresses);
     let mut nodes = Framed::new(alloc, TcpLink::dialing(rt, dialing, places.limit));
     let mut out = ShownSink::new(alloc, StdSink::new(writer(rt)), shown);
@@ -221,17 +240,24 @@ fn watcher(rt: &HostRuntime, places: &Places) -> Option<Stderr> {
     }
 }
 
-/// The register of a name: records in etcd, or a file. A status where there is none, which was told.
-fn register_of<'a>(rt: &'a HostRuntime, name: &'a str) -> Result<NamedRegister<'a>, Status> {
-    let place = match place_of(rt.alloc(), name) {
-        Ok(Some(place)) => place,
-        Ok(None) => return Ok(NamedRegister::file(rt, name)),
-        Err(PlaceFault::NoMemory) => return Err(ends_early(rt, &[], Status::NoMemory)),
+/// Where the register of a name is in etcd; none where it is a file. A status where the name is none, which was told.
+fn place_in_etcd(rt: &HostRuntime, name: &str) -> Result<Option<Place>, Status> {
+    match place_of(rt.alloc(), name) {
+        Ok(place) => Ok(place),
+        Err(PlaceFault::NoMemory) => Err(ends_early(rt, &[], Status::NoMemory)),
         Err(fault) => {
             let _ = tell_status(rt, &Status::Usage);
             let _ = tell_place(rt, fault);
-            return Err(Status::Usage);
+            Err(Status::Usage)
         }
+    }
+}
+
+/// The register that the arguments name: records in etcd, or a file. A status where there is none, which was told.
+fn register_of<'a>(rt: &'a HostRuntime, places: &'a Places) -> Result<NamedRegister<'a>, Status> {
+    let name = places.register.as_str();
+    let Some(place) = place_in_etcd(rt, name)? else {
+        return Ok(NamedRegister::file(rt, name, places.quiet));
     };
     match NamedRegister::etcd(rt, place) {
         Ok(register) => Ok(register),

@@ -2,6 +2,8 @@
 ghost use Rattle.std.specs.Prelude.{◌≡◌, ◌⊎◌, ◌≤◌, IsErrOf};
 ghost use Rattle.ld_io.specs.Causes.{Rose};
 
+use crate::causes::tell_made;
+use crate::files::is_missing;
 use ld_etcd::{Cause, Etcd, Place, TcpMembers};
 use ld_ids::{LogId, NodeId, Spec};
 use ld_msg::Summary;
@@ -21,19 +23,34 @@ pub enum Named<'a> {
     Etcd(SharedRegister<Etcd<TcpMembers<'a, HostRuntime>>>),
 }
 
-/// The register that the arguments name, and how often a call of it failed.
+/// A register's file that wasn't there when the program began.
+#[derive(Clone, Copy)]
+struct Missing<'a> {
+    rt: &'a HostRuntime,
+    path: &'a str,
+}
+
+/// The register that the arguments name, how often a call of it failed, and the file of which it is told when a draw has made
+/// it.
 #[derive(Drop)]
 pub struct NamedRegister<'a> {
     named: Named<'a>,
     faults: u64,
+    missing: Option<Missing<'a>>,
 }
 
 impl<'a> NamedRegister<'a> {
-    /// The register in a file.
-    pub fn file(rt: &'a HostRuntime, path: &'a str) -> NamedRegister<'a> {
+    /// The register in a file. Where it isn't there, standard error is told when a draw has made it, unless that is to be quiet.
+    pub fn file(rt: &'a HostRuntime, path: &'a str, quiet: bool) -> NamedRegister<'a> {
+        let missing = if !quiet && is_missing(rt, path) {
+            Some(Missing { rt, path })
+        } else {
+            None
+        };
         NamedRegister {
             named: Named::File(FileRegister::new(rt, path)),
             faults: 0,
+            missing,
         }
     }
 
@@ -49,6 +66,7 @@ impl<'a> NamedRegister<'a> {
         Ok(NamedRegister {
             named: Named::Etcd(SharedRegister::new(records, mark)),
             faults: 0,
+            missing: None,
         })
     }
 
@@ -71,6 +89,17 @@ impl<'a> NamedRegister<'a> {
             Named::File(_) => None,
             Named::Etcd(register) => register.records().cause(),
         }
+    }
+}
+
+/// Tells once that a draw, which answers so, has made the file that wasn't there.
+fn tell_once(missing: &mut Option<Missing<'_>>, answer: &Result<Drawn, RegisterFault>) {
+    if answer.is_err() {
+        return;
+    }
+    if let Some(file) = missing.take() {
+        // Where standard error can't be written, there is nobody left to tell.
+        let _ = tell_made(file.rt, file.path);
     }
 }
 
@@ -158,6 +187,7 @@ impl<'a> Register for NamedRegister<'a> {
             Named::File(register) => {
                 let answer = register.draw(alloc, node);
                 count(&mut self.faults, &answer);
+                tell_once(&mut self.missing, &answer);
                 answer
             }
             Named::Etcd(register) => {

@@ -8,8 +8,9 @@ use Rattle.ld_words.specs.declared.command.TailWords.{TailWords}
 use Rattle.ld_words.specs.declared.command.CrowdWords.{CrowdWords}
 use Rattle.ld_words.specs.declared.command.RegisterWords.{RegisterWords}
 use Rattle.ld_words.specs.declared.command.StatusWords.{StatusWords}
+use Rattle.ld_words.specs.declared.command.TrimWords.{TrimWords}
 use Rattle.ld_words.specs.declared.command.Command.{Command}
-use Rattle.ld_words.specs.declared.command.Command.TheVariants.{Node, Crowd, Append, Tail, Register, Status}
+use Rattle.ld_words.specs.declared.command.Command.TheVariants.{Node, Crowd, Append, Tail, Register, Status, Trim}
 use Rattle.ld_words.specs.Meaning.{Asks, IsNoCommand}
 use Rattle.ld_words.proofs.OneCommand.{one_command}
 
@@ -62,3 +63,10 @@ status_or other _ = other
 
 pub one_status : (s t : StatusWords) → Status s ≡ Status t → s ≡ t
 one_status s t same = ap (status_or s) same
+
+abbrev trim_or : TrimWords → Command → TrimWords
+trim_or other (Trim t) = t
+trim_or other _ = other
+
+pub one_trim : (t u : TrimWords) → Trim t ≡ Trim u → t ≡ u
+one_trim t u same = ap (trim_or t) same

@@ -5,6 +5,7 @@ use Rattle.std.proofs.lemmas.Bool.Decides.{nat_tests}
 use Rattle.ld_io.specs.Causes.{Rose}
 use Rattle.ld_config.specs.declared.config.Config.{Config}
 use Rattle.ld_ids.specs.declared.set.Spec.{Spec}
+use Rattle.ld_serve.specs.declared.stop.Which.TheVariants as journals
 use Rattle.ld_machine.specs.Config.{spec_in, first_spec, has_log}
 use Rattle.ld_machine.specs.State.{State}
 use Rattle.ld_machine.specs.Step.{spec_set}
@@ -12,7 +13,7 @@ use Rattle.ld_rounds.specs.declared.ended.Refusal.TheVariants as refusals
 use Rattle.ld_rounds.specs.declared.ended.Ended.{Ended}
 use Rattle.ld_rounds.specs.declared.ended.Ended.TheVariants as ends
 use Rattle.ld_rounds.specs.Input.{Input}
-use Rattle.ld_rounds.specs.Drives.{Stopped}
+use Rattle.ld_rounds.specs.Drives.{Stopped, CallCounts, HasBroken}
 use Rattle.ld_rounds.proofs.Joining.{feeds_here, feeds_until}
 use Rattle.ld_rounds.proofs.Steps.{stays}
 use Rattle.ld_rounds.proofs.Writing.{none_written}
@@ -43,10 +44,10 @@ ends_by before now P ends.Read risen more fewer p = p
 ends_by before now P ends.Write risen more fewer p = p
 ends_by before now P ends.NoMemory risen more fewer p = p
 
-is_less : (before now : ℕ) → nat_lt before now ≡ true → before < now
+pub is_less : (before now : ℕ) → nat_lt before now ≡ true → before < now
 is_less before now e = grind (arith, nat_tests)
 
-is_least : (before now : ℕ) → nat_lt before now ≡ false → now ≤ before
+pub is_least : (before now : ℕ) → nat_lt before now ≡ false → now ≤ before
 is_least before now e = grind (arith, nat_tests)
 
 pub ends_so : (before now first last : ℕ) (P : Ended → Type 0) (ended : Ended) (status : Status) → first ≡ before → last ≡ now → status ≡ status_of ended (nat_lt first last)
@@ -54,6 +55,25 @@ pub ends_so : (before now first last : ℕ) (P : Ended → Type 0) (ended : Ende
 ends_so before now first last P ended status begins ends is p =
     subst (λ n. EndsDrive before n P status) ends (subst (λ n. EndsDrive n last P status) begins
     (subst (EndsDrive first last P) (sym is) (ends_by first last P ended (nat_lt first last) (is_less first last) (is_least first last) p)))
+
+-- what each end says more
+pub ends_map : (before now : ℕ) (P Q : Ended → Type 0) → ((ended : Ended) → P ended → Q ended) → (status : Status) → EndsDrive before now P status → EndsDrive before now Q status
+ends_map before now P Q f statuses.Ok p = f ends.Done p
+ends_map before now P Q f statuses.Link p = (f ends.Rounds p.0, p.1)
+ends_map before now P Q f statuses.NotDone p = (f ends.Rounds p.0, p.1)
+ends_map before now P Q f (statuses.Preempted by) p = f (ends.Preempted by) p
+ends_map before now P Q f statuses.LogLimit p = f ends.LogLimit p
+ends_map before now P Q f statuses.EpochLimit p = f ends.EpochLimit p
+ends_map before now P Q f statuses.EpochFull p = f ends.EpochFull p
+ends_map before now P Q f statuses.Register p = f (ends.Register refusals.Failed) p
+ends_map before now P Q f (statuses.JournalFull journals.Register) p = f (ends.Register refusals.Full) p
+ends_map before now P Q f (statuses.Damaged journals.Register place) p = f (ends.Register (refusals.Damaged place)) p
+ends_map before now P Q f (statuses.BadFrame fault) p = f (ends.BadFrame fault) p
+ends_map before now P Q f (statuses.BadSchedule line place) p = f (ends.BadLine line place) p
+ends_map before now P Q f statuses.Read p = f ends.Read p
+ends_map before now P Q f statuses.Write p = f ends.Write p
+ends_map before now P Q f statuses.NoMemory p = f ends.NoMemory p
+ends_map before now P Q f _ p = absurd p
 
 -- what holds of a drive by its rounds
 pub driven_so : (silent : Type 0) (T : ℕ → Ended → Type 0) (rounds wanted : ℕ) → rounds ≡ wanted
@@ -89,6 +109,7 @@ disk_stays before now P first last (statuses.Preempted by) e same = same
 disk_stays before now P first last statuses.LogLimit e same = same
 disk_stays before now P first last statuses.EpochLimit e same = same
 disk_stays before now P first last statuses.EpochFull e same = same
+disk_stays before now P first last statuses.SwapLimit e same = same
 disk_stays before now P first last (statuses.Moves from to) e same = same
 
 append_read : (crowded : Type 0) (damaged : ℕ → Type 0) (i : Option Input) (reads reads_now writes writes_now : ℕ) (old new : Option (List ℕ)) → IsEndOfAppend crowded damaged i reads reads_now writes writes_now old new ends.Read → Rose reads reads_now
@@ -124,22 +145,22 @@ of_same P a b p same = subst P same p
 -- ---- what was read ----
 
 -- running out of memory before anything was done
-pub nothing_read : (w : Wanted) (broken : Type 0) (most : ℕ) (c : Config) (s : State) (written : Option (List ℕ)) → Stopped (tailing w) broken (TailsUntil w c s.network.count most) c s written written
-nothing_read w broken most c s written = record {
+pub nothing_read : (w : Wanted) (counts : CallCounts) (most : ℕ) (c : Config) (s : State) (written : Option (List ℕ)) → Stopped (tailing w) (HasBroken counts) (TailsUntil w c s.network.count most counts) c s written written
+nothing_read w counts most c s written = record {
   state = s;
   lines = [];
-  goes = stays (tailing w) broken c (TailsUntil w c s.network.count most) s (inl (inl refl));
+  goes = stays (tailing w) (HasBroken counts) c (TailsUntil w c s.network.count most counts) s (inl (inl refl));
   written = none_written written [];
 }
 
 -- ---- what was appended ----
 
 -- running out of memory before anything was done
-pub nothing_done : (name : List ℕ) (l : ℕ) (broken : Type 0) (coming : Option Input) (most : ℕ) (c : Config) (s : State) (written : Option (List ℕ)) → Stopped (sequencing name) broken (EndAt name l c s.network.count coming most ends.NoMemory) c s written written
-nothing_done name l broken coming most c s written = record {
+pub nothing_done : (name : List ℕ) (l : ℕ) (counts : CallCounts) (coming : Option Input) (most : ℕ) (c : Config) (s : State) (written : Option (List ℕ)) → Stopped (sequencing name) (HasBroken counts) (EndAt name l c s.network.count counts coming most ends.NoMemory) c s written written
+nothing_done name l counts coming most c s written = record {
   state = s;
   lines = [];
-  goes = stays (sequencing name) broken c (EndAt name l c s.network.count coming most ends.NoMemory) s (inl (inl refl, feeds_until c coming coming ends.NoMemory s [] tt (feeds_here c coming s)));
+  goes = stays (sequencing name) (HasBroken counts) c (EndAt name l c s.network.count counts coming most ends.NoMemory) s (inl (inl refl, feeds_until c coming coming ends.NoMemory s [] tt (feeds_here c coming s)));
   written = none_written written [];
 }
 

@@ -9,5 +9,9 @@ pub mod OneReading
 pub mod MadeRun
 pub mod StatusOf
 pub mod Asked
+pub mod Commands
 pub mod Drives
 pub mod PayloadLines
+pub mod Trimming
+pub mod TrimOnce
+pub mod Stopping

@@ -2,7 +2,7 @@
 use Rattle.std.specs.Prelude.{ℕ, ◌≤◌, ◌<◌, List, Bool, if◌then◌else◌}
 use Rattle.ld_serve.specs.declared.stop.Which.TheVariants as journals
 use Rattle.ld_words.specs.declared.command.Command.{Command}
-use Rattle.ld_words.specs.declared.command.Command.TheVariants.{Crowd, Append, Tail, Register as Told, Status as Asked}
+use Rattle.ld_words.specs.declared.command.Command.TheVariants.{Crowd, Append, Tail, Register as Told, Status as Asked, Mend, Replace, Show, Trim, Copy}
 use Rattle.ld_words.specs.Meaning.{Asks}
 use Rattle.clap.specs.Walk.{Text}
 use Rattle.ld_msg.specs.Register.{Register}
@@ -18,12 +18,15 @@ Drives (Append w) = Unit {0}
 Drives (Tail t) = Unit {0}
 Drives _ = ⊥
 
--- the command looks at the register as a sequencer, a reader or an operator does
+-- the command looks at the register as a sequencer, a reader, a stopped node or an operator does
 abbrev pub Looks : Command → Type 0
 Looks (Append w) = Unit {0}
 Looks (Tail t) = Unit {0}
 Looks (Told r) = Unit {0}
 Looks (Asked s) = Unit {0}
+Looks (Mend m) = Unit {0}
+Looks (Replace r) = Unit {0}
+Looks (Trim t) = Unit {0}
 Looks _ = ⊥
 
 -- the command tells what stands in the register
@@ -43,6 +46,8 @@ Calls (Append w) = Unit {0}
 Calls (Tail t) = Unit {0}
 Calls (Crowd w) = Unit {0}
 Calls (Asked s) = Unit {0}
+Calls (Mend m) = Unit {0}
+Calls (Trim t) = Unit {0}
 Calls _ = ⊥
 
 -- the command dials nodes
@@ -50,7 +55,28 @@ abbrev pub Dials : Command → Type 0
 Dials (Append w) = Unit {0}
 Dials (Tail t) = Unit {0}
 Dials (Asked s) = Unit {0}
+Dials (Mend m) = Unit {0}
+Dials (Trim t) = Unit {0}
 Dials _ = ⊥
+
+-- the command mends a stopped node
+abbrev pub Mends : Command → Type 0
+Mends (Mend m) = Unit {0}
+Mends _ = ⊥
+
+-- the command trims a log
+abbrev pub Trims : Command → Type 0
+Trims (Trim t) = Unit {0}
+Trims _ = ⊥
+
+-- the command is over a stopped node's store, or trims a log, or copies a register
+abbrev pub Operates : Command → Type 0
+Operates (Mend m) = Unit {0}
+Operates (Replace r) = Unit {0}
+Operates (Show s) = Unit {0}
+Operates (Trim t) = Unit {0}
+Operates (Copy c) = Unit {0}
+Operates _ = ⊥
 
 -- the arguments ask for no such command
 abbrev pub AskForNone : (Command → Type 0) → List Text → Type 0

@@ -23,4 +23,5 @@ code (statuses.Preempted by) = 16
 code statuses.LogLimit = 17
 code statuses.EpochLimit = 18
 code statuses.EpochFull = 19
+code statuses.SwapLimit = 21
 code (statuses.Moves from to) = 22

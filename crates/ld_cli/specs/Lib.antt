@@ -13,3 +13,5 @@ pub mod Clients
 pub mod Payloads
 pub mod Crowds
 pub mod Looks
+pub mod Trims
+pub mod Stopped

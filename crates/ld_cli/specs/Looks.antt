@@ -31,10 +31,10 @@ EndsLook done stopped _ = ⊥
 
 -- of a register that may have held these contents, and of an output: all of the text was written, or a part of it from the front
 abbrev pub WritesAll : (Contents → Type 0) → List ℕ → List ℕ → RegisterWords → Type 0
-WritesAll holds old new r = (c : Contents) → holds c → new ≡ old ++ register_text c r.log r.from
+WritesAll holds old new r = (c : Contents) → holds c → new ≡ old ++ register_text r.json c r.log r.from
 
 abbrev pub WritesSome : (Contents → Type 0) → List ℕ → List ℕ → RegisterWords → Type 0
-WritesSome holds old new r = (c : Contents) → holds c → WritesPart old new (register_text c r.log r.from)
+WritesSome holds old new r = (c : Contents) → holds c → WritesPart old new (register_text r.json c r.log r.from)
 
 -- whether the register tells, where it is damaged, its counts of faults, and those of the output
 module _ (Told : Type 0) (damaged : ℕ → Type 0) (register_before register_now before now : ℕ) (holds : Contents → Type 0) (old new : List ℕ) where

@@ -8,7 +8,7 @@ ghost use Rattle.ld_machine.specs.State.{State};
 ghost use Rattle.ld_machine.specs.Step.{spec_set};
 ghost use Rattle.ld_dial.specs.Far.{Far};
 ghost use Rattle.ld_words.specs.Bounds.{IsTailInBounds, IsAppendInBounds};
-ghost use Rattle.ld_rounds.specs.Drives.{IsBroken};
+ghost use Rattle.ld_rounds.specs.Drives.{counted};
 ghost use Rattle.ld_rounds.specs.Endings.{IsOffAs, IsEndedOff};
 ghost use Rattle.ld_append.specs.Acting.{HoldsSome, LacksRoom, IsSpecOf, IsUnset, MayCrowd};
 ghost use Rattle.std.specs.Io.KnownBytes.{prepend_known};
@@ -34,7 +34,7 @@ use ld_words::{AppendWords, LogWords, TailWords};
 use std::alloc::Global;
 
 /// The name of this one byte.
-fn name_of(alloc: Global, byte: u8) -> Result<Name, NoMemory>
+pub(crate) fn name_of(alloc: Global, byte: u8) -> Result<Name, NoMemory>
     ensures { IfOk result (λ name. name ≡ byte ∷ []) }
 {
     let mut bytes = Vec::new(alloc);
@@ -43,7 +43,7 @@ fn name_of(alloc: Global, byte: u8) -> Result<Name, NoMemory>
 }
 
 /// The status of an end, by the nodes' count of failures before and now.
-fn status_of(ended: Ended, before: u64, now: u64) -> Status
+pub(crate) fn status_of(ended: Ended, before: u64, now: u64) -> Status
     ensures { result ≡ told ended (nat_lt before now) }
 {
     match ended {
@@ -88,9 +88,9 @@ fn append_lines<I: Ready, O: Sink, G: Register, N: Nodes>(
     nodes: &mut N,
 ) -> Status
     requires { IsSpec spec.now }
-    ensures appended { (s : State) (far : Far) → IsInBounds words.now.config → IsSpecOf words.now.config spec.now → IsUnset words.now.config s spec.now → N.tells nodes.old words.now.config far → Begins (HasNoSequencers (G.tells reg.old)) words.now.config s far
+    ensures appended { (s : State) (far : Far) → IsInBounds words.now.config → IsSpecOf words.now.config spec.now → IsUnset words.now.config s spec.now → N.tells nodes.old words.now.config far → Begins (HasNoSequencers name (G.tells reg.old)) words.now.config s far
         → (N.silent nodes.new ≡ true) ⊎ EndsDrive (N.faults nodes.old) (N.faults nodes.new)
-        (IsAppended name spec.now.log (IsBroken (N.faults nodes.old) (N.faults nodes.new) (N.endings nodes.old) (N.endings nodes.new)) (input_after lines.old.held.now.batches lines.old.held.now.number (prepend_known lines.old.held.now.buffer (left_of (I.known lines.old.input.now) (I.gave lines.old.input.now)))) words.now.rounds (N.tells nodes.new) (G.tells reg.new) words.now.config s (Some (O.written out.old)) (Some (O.written out.new))) result }
+        (IsAppended name spec.now.log (counted (N.faults nodes.old) (N.faults nodes.new) (N.endings nodes.old) (N.endings nodes.new)) (input_after lines.old.held.now.batches lines.old.held.now.number (prepend_known lines.old.held.now.buffer (left_of (I.known lines.old.input.now) (I.gave lines.old.input.now)))) words.now.rounds (N.tells nodes.new) (G.tells reg.new) words.now.config s (Some (O.written out.old)) (Some (O.written out.new))) result }
     ensures itself { lines.new.input.ghost_name ≡ lines.old.input.ghost_name }
     ensures ends { EndsDrive (N.faults nodes.old) (N.faults nodes.new)
         (IsEndOfAppend (G.told reg.old → MayCrowd (G.may_hold reg.old) spec.now.log) (λ place. G.told reg.old → G.damaged reg.old place) (input_after lines.old.held.now.batches lines.old.held.now.number (prepend_known lines.old.held.now.buffer (left_of (I.known lines.old.input.now) (I.gave lines.old.input.now)))) (I.faults lines.old.input.now) (I.faults lines.new.input.now) (O.faults out.old) (O.faults out.new) (Some (O.written out.old)) (Some (O.written out.new))) result }
@@ -127,9 +127,9 @@ pub(crate) fn appended<I: Ready, O: Sink, G: Register, N: Nodes>(
     nodes: &mut N,
 ) -> Status
     requires bounds { IsAppendInBounds words.now }
-    ensures appended { (s : State) (far : Far) → N.tells nodes.old words.now.of.config far → Begins (HasNoSequencers (G.tells reg.old)) words.now.of.config s far → spec_set words.now.of.config s words.now.of.log ≡ first_spec words.now.of.config words.now.of.log
+    ensures appended { (s : State) (far : Far) → N.tells nodes.old words.now.of.config far → Begins (HasNoSequencers (codes "s") (G.tells reg.old)) words.now.of.config s far → spec_set words.now.of.config s words.now.of.log ≡ first_spec words.now.of.config words.now.of.log
         → (N.silent nodes.new ≡ true) ⊎ EndsDrive (N.faults nodes.old) (N.faults nodes.new)
-        (IsAppended (codes "s") words.now.of.log (IsBroken (N.faults nodes.old) (N.faults nodes.new) (N.endings nodes.old) (N.endings nodes.new)) (payloads_in words.now.batches (left_of (I.known input.old) (I.gave input.old))) words.now.of.rounds (N.tells nodes.new) (G.tells reg.new) words.now.of.config s (Some (O.written out.old)) (Some (O.written out.new))) result }
+        (IsAppended (codes "s") words.now.of.log (counted (N.faults nodes.old) (N.faults nodes.new) (N.endings nodes.old) (N.endings nodes.new)) (payloads_in words.now.batches (left_of (I.known input.old) (I.gave input.old))) words.now.of.rounds (N.tells nodes.new) (G.tells reg.new) words.now.of.config s (Some (O.written out.old)) (Some (O.written out.new))) result }
     ensures ends { EndsDrive (N.faults nodes.old) (N.faults nodes.new)
         (IsEndOfAppend (G.told reg.old → MayCrowd (G.may_hold reg.old) words.now.of.log) (λ place. G.told reg.old → G.damaged reg.old place) (payloads_in words.now.batches (left_of (I.known input.old) (I.gave input.old))) (I.faults input.old) (I.faults input.new) (O.faults out.old) (O.faults out.new) (Some (O.written out.old)) (Some (O.written out.new))) result }
     ensures refused { EndsDrive (N.faults nodes.old) (N.faults nodes.new)
@@ -174,7 +174,7 @@ pub(crate) fn tailed<O: Sink, G: Register, N: Nodes>(
     requires bounds { IsTailInBounds words.now }
     ensures tailed { (s : State) (far : Far) → N.tells nodes.old words.now.of.config far → Begins (HasNoReaders (G.tells reg.old)) words.now.of.config s far
         → (N.silent nodes.new ≡ true) ⊎ EndsDrive (N.faults nodes.old) (N.faults nodes.new)
-        (IsTailed (record { name = codes "r"; log = words.now.of.log; from = words.now.from; until = words.now.until; style = words.now.style }) (IsBroken (N.faults nodes.old) (N.faults nodes.new) (N.endings nodes.old) (N.endings nodes.new)) words.now.of.rounds (N.tells nodes.new) (G.tells reg.new) words.now.of.config s (Some (O.written out.old)) (Some (O.written out.new))) result }
+        (IsTailed (record { name = codes "r"; log = words.now.of.log; from = words.now.from; until = words.now.until; style = words.now.style }) (counted (N.faults nodes.old) (N.faults nodes.new) (N.endings nodes.old) (N.endings nodes.new)) words.now.of.rounds (N.tells nodes.new) (G.tells reg.new) words.now.of.config s (Some (O.written out.old)) (Some (O.written out.new))) result }
     ensures ends { EndsDrive (N.faults nodes.old) (N.faults nodes.new)
         (IsTailEnd (λ place. G.told reg.old → G.damaged reg.old place) (G.faults reg.old) (G.faults reg.new) (O.faults out.old) (O.faults out.new)) result }
     ensures only_looks { OnlyLooks (G.told reg.old) (G.told reg.new) (G.may_hold reg.old) (G.may_hold reg.new) }

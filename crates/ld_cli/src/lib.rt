@@ -9,12 +9,16 @@ mod input;
 mod law;
 mod lines;
 mod looks;
+mod one_trim;
+mod operating;
 mod payloads;
 mod perform;
 mod replay;
 mod serving;
 mod status;
+mod stopped;
 mod top;
+mod trims;
 
 pub use law::has_one_reading;
 pub use ld_serve::Which;

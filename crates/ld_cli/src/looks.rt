@@ -33,7 +33,7 @@ fn status_of(stop: LookStop) -> Status
 }
 
 /// The status of a stop, where nodes are asked.
-fn status_of_nodes(stop: StatusStop) -> Status
+pub(crate) fn status_of_nodes(stop: StatusStop) -> Status
     ensures { result ≡ told_of_nodes stop }
 {
     match stop {
@@ -57,7 +57,7 @@ pub(crate) fn registered<O: Sink, G: Register>(
     ensures write { result ≡ Status.Write → Rose (O.faults out.old) (O.faults out.new) }
     ensures disk { (n : ℕ) → DiskFaults n n result }
 {
-    match register_lines(alloc, words.log, words.from, reg, out) {
+    match register_lines(alloc, words.log, words.from, words.json, reg, out) {
         Ok(()) => Status::Ok,
         Err(stop) => status_of(stop),
     }
@@ -72,7 +72,7 @@ pub(crate) fn asked<O: Sink, G: Register, N: Nodes>(
     nodes: &mut N,
 ) -> Status
     requires bounds { IsStatusInBounds words.now }
-    ensures shown { EndsStatus (HasStatus (G.holds reg.old) (N.tells nodes.old) (N.tells nodes.new) (N.silent nodes.new) words.now.config words.now.log words.now.epochs (O.written out.old) (O.written out.new))
+    ensures shown { EndsStatus (HasStatus words.now.json (G.holds reg.old) (N.tells nodes.old) (N.tells nodes.new) (N.silent nodes.new) words.now.config words.now.log words.now.epochs (O.written out.old) (O.written out.new))
         (IsBroken (N.faults nodes.old) (N.faults nodes.new) (N.endings nodes.old) (N.endings nodes.new))
         (IsStatusStop (λ place. G.told reg.old → G.damaged reg.old place) (G.faults reg.old) (G.faults reg.new) (O.faults out.old) (O.faults out.new) (N.off nodes.new)) result }
     ensures only_looks { OnlyLooks (G.told reg.old) (G.told reg.new) (G.may_hold reg.old) (G.may_hold reg.new) }
@@ -86,6 +86,7 @@ pub(crate) fn asked<O: Sink, G: Register, N: Nodes>(
         &words.config,
         words.log,
         words.epochs,
+        words.json,
         reg,
         nodes,
         out,

@@ -6,7 +6,7 @@ ghost use Rattle.ld_node.specs.Known.{known_in};
 ghost use Rattle.ld_serve.specs.Complete.{AreSpoken, MayOpen, IsFaultOrLimit};
 ghost use Rattle.ld_serve.specs.Opening.{IsBlank, Stands};
 ghost use Rattle.ld_serve.specs.Stops.{IsServingStop};
-ghost use Rattle.ld_serve.specs.Whole.{HasServed, HasStopped, IsNotOpened};
+ghost use Rattle.ld_serve.specs.Whole.{HasServed, HasStopped, HasTold, HasToldUntil, IsNotOpened};
 ghost use Rattle.ld_cli.specs.Serving.{status_of as told, EndsServing, DiskFaults, RegisterFaults, LinkFaults};
 
 use crate::status::Status;
@@ -30,6 +30,10 @@ pub(crate) fn served<D: Disk, G: Register, L: Link>(
         (λ stop. IsNotOpened (D.faults disk.old) (D.faults disk.new) (D.seen disk.old) (D.seen disk.new) (D.may_leave disk.old) (D.may_leave disk.new)
         (G.faults reg.old) (G.faults reg.new) (G.told reg.old) (G.holds reg.old) (G.holds reg.new) (G.damaged reg.old) node.now.id node.now.format link.old link.new stop
         ⊎ HasStopped (D.seen disk.old) (D.may_leave disk.new) (G.holds reg.old) (G.holds reg.new) node.now.id (known_in node.now.config) node.now.format start (L.peers link.new) stop) result }
+    ensures told { EndsServing (HasTold (D.seen disk.old) (D.may_leave disk.new) (G.holds reg.old) (G.holds reg.new) node.now.id (known_in node.now.config) node.now.format (L.did link.old) (L.did link.new) node.now.turns)
+        (λ stop. IsNotOpened (D.faults disk.old) (D.faults disk.new) (D.seen disk.old) (D.seen disk.new) (D.may_leave disk.old) (D.may_leave disk.new)
+        (G.faults reg.old) (G.faults reg.new) (G.told reg.old) (G.holds reg.old) (G.holds reg.new) (G.damaged reg.old) node.now.id node.now.format link.old link.new stop
+        ⊎ HasToldUntil (D.seen disk.old) (D.may_leave disk.new) (G.holds reg.old) (G.holds reg.new) node.now.id (known_in node.now.config) node.now.format (L.did link.old) (L.did link.new) node.now.turns stop) result }
     ensures opening { EndsServing ⊤
         (λ stop. IsNotOpened (D.faults disk.old) (D.faults disk.new) (D.seen disk.old) (D.seen disk.new) (D.may_leave disk.old) (D.may_leave disk.new)
         (G.faults reg.old) (G.faults reg.new) (G.told reg.old) (G.holds reg.old) (G.holds reg.new) (G.damaged reg.old) node.now.id node.now.format link.old link.new stop

@@ -50,6 +50,8 @@ pub enum Status {
     EpochLimit,
     /// The offsets of the sequencer's epoch are used up.
     EpochFull,
+    /// Nodes of the log have taken others' places as often as they can.
+    SwapLimit,
     /// The log would move: of its greatest epoch the register says the first, and the configuration says the second.
     Moves { from: Spec, to: Spec },
 }
@@ -79,6 +81,7 @@ impl Status {
             Status::LogLimit => 17,
             Status::EpochLimit => 18,
             Status::EpochFull => 19,
+            Status::SwapLimit => 21,
             Status::Moves { .. } => 22,
         }
     }

@@ -265,18 +265,98 @@ const TAIL: [&str; 15] = [
     "e1n1",
 ];
 
-/// How an append and a tail end that reach no node, and whether they write what they can.
-fn reach_nobody(alloc: Global) -> Result<[(Status, bool); 2], Fail> {
+/// The words of a trim of one round of such a log.
+const TRIM: [&str; 13] = [
+    "trim",
+    "--config",
+    "{\"nodes\":[1],\"logs\":[{\"id\":1,\"set\":[1],\"r\":1}]}",
+    "--log",
+    "1",
+    "--register",
+    "register",
+    "--port",
+    "1",
+    "--rounds",
+    "1",
+    "--upto",
+    "e1n1",
+];
+
+/// How an append, a tail and a trim end that reach no node, and whether they write what they can. Nothing is released that could
+/// be trimmed.
+fn reach_nobody(alloc: Global) -> Result<[(Status, bool); 3], Fail> {
     let written = "active s 1\nappended s e1n1\n";
+    let trimmed = "active s 1\nrefused s past e1n0\nnode 1 silent\n";
     Ok([
         ends(alloc, &APPEND, "6869\n", (&[], &[]), written)?,
         alone(alloc, &TAIL, "")?,
+        alone(alloc, &TRIM, trimmed)?,
     ])
 }
 
 #[test]
 fn what_reaches_no_node_isnt_done(rt: HostRuntime) -> Result<(), Fail> {
-    assert_eq!(rt; reach_nobody(rt.alloc())?, [(Status::Link, true); 2]);
+    assert_eq!(rt; reach_nobody(rt.alloc())?, [(Status::Link, true); 3]);
+    Ok(())
+}
+
+/// The words of a show of a node's store.
+const SHOW: [&str; 7] = [
+    "show",
+    "--id",
+    "1",
+    "--config",
+    "{\"nodes\":[1,2],\"logs\":[{\"id\":1,\"set\":[1,2],\"r\":1}]}",
+    "--store",
+    "store",
+];
+
+/// The words of a node that is mended.
+const MEND: [&str; 13] = [
+    "mend",
+    "--id",
+    "1",
+    "--config",
+    "{\"nodes\":[1,2],\"logs\":[{\"id\":1,\"set\":[1,2],\"r\":1}]}",
+    "--store",
+    "store",
+    "--register",
+    "register",
+    "--port",
+    "1",
+    "--rounds",
+    "1",
+];
+
+/// The words of a node that takes the place of another one.
+const REPLACE: [&str; 13] = [
+    "replace",
+    "--id",
+    "1",
+    "--of",
+    "2",
+    "--config",
+    "{\"nodes\":[1,2],\"logs\":[{\"id\":1,\"set\":[1,2],\"r\":1}]}",
+    "--log",
+    "1",
+    "--store",
+    "store",
+    "--register",
+    "register",
+];
+
+/// How the commands over a stopped node's store end where that is blank, and whether they write nothing.
+fn over_a_blank_store(alloc: Global) -> Result<[(Status, bool); 3], Fail> {
+    Ok([
+        alone(alloc, &SHOW, "")?,
+        alone(alloc, &MEND, "")?,
+        alone(alloc, &REPLACE, "")?,
+    ])
+}
+
+#[test]
+fn a_blank_store_isnt_opened(rt: HostRuntime) -> Result<(), Fail> {
+    assert_eq!(rt; over_a_blank_store(rt.alloc())?, [(Status::Blank, true); 3]);
     Ok(())
 }
 

@@ -5,7 +5,7 @@ use Rattle.ld_append.specs.Acting.{MayCrowd, HoldsSome, LacksRoom}
 use Rattle.ld_append.specs.Appends.{IsAppended, IsEndOfAppend, IsRefused}
 use Rattle.ld_cli.specs.Clients.{EndsDrive}
 use Rattle.ld_cli.specs.Payloads.{input_after}
-use Rattle.ld_rounds.specs.Drives.{IsBroken}
+use Rattle.ld_rounds.specs.Drives.{counted}
 use Rattle.ld_rounds.specs.Endings.{IsOffAs, IsEndedOff}
 use Rattle.ld_cli.proofs.Drives.{ends_so, driven_so}
 use Rattle.ld_cli.proofs.clients.append_lines.Goals as goal
@@ -21,12 +21,12 @@ returns-clause-appended g c = λ s far bounds spec unset told begins.
     subst
     (λ r.
     (g.N.Nodes.silent c.append-ended.new.nodes ≡ true) ⊎ EndsDrive (g.N.Nodes.faults c.args.nodes.now) (g.N.Nodes.faults c.append-ended.new.nodes)
-    (IsAppended c.args.name c.args.spec.now.log (IsBroken (g.N.Nodes.faults c.args.nodes.now) (g.N.Nodes.faults c.append-ended.new.nodes) (g.N.Nodes.endings c.args.nodes.now) (g.N.Nodes.endings c.append-ended.new.nodes)) (input_after c.args.lines.now.held.now.batches c.args.lines.now.held.now.number (prepend_known c.args.lines.now.held.now.buffer (left_of (g.I.Source.known c.args.lines.now.input.now) (g.I.Source.gave c.args.lines.now.input.now)))) c.args.words.now.rounds
+    (IsAppended c.args.name c.args.spec.now.log (counted (g.N.Nodes.faults c.args.nodes.now) (g.N.Nodes.faults c.append-ended.new.nodes) (g.N.Nodes.endings c.args.nodes.now) (g.N.Nodes.endings c.append-ended.new.nodes)) (input_after c.args.lines.now.held.now.batches c.args.lines.now.held.now.number (prepend_known c.args.lines.now.held.now.buffer (left_of (g.I.Source.known c.args.lines.now.input.now) (g.I.Source.gave c.args.lines.now.input.now)))) c.args.words.now.rounds
     (g.N.Nodes.tells c.append-ended.new.nodes) (g.G.Register.tells r) c.args.words.now.config s (Some (g.O.Sink.written c.args.out.now)) (Some (g.O.Sink.written c.append-ended.new.out))) c.status_of.result)
     (search rules)
     (driven_so (g.N.Nodes.silent c.append-ended.new.nodes ≡ true)
     (λ rounds.
-    IsAppended c.args.name c.args.spec.now.log (IsBroken (g.N.Nodes.faults c.args.nodes.now) (g.N.Nodes.faults c.append-ended.new.nodes) (g.N.Nodes.endings c.args.nodes.now) (g.N.Nodes.endings c.append-ended.new.nodes)) (input_after c.args.lines.now.held.now.batches c.args.lines.now.held.now.number (prepend_known c.args.lines.now.held.now.buffer (left_of (g.I.Source.known c.args.lines.now.input.now) (g.I.Source.gave c.args.lines.now.input.now)))) rounds
+    IsAppended c.args.name c.args.spec.now.log (counted (g.N.Nodes.faults c.args.nodes.now) (g.N.Nodes.faults c.append-ended.new.nodes) (g.N.Nodes.endings c.args.nodes.now) (g.N.Nodes.endings c.append-ended.new.nodes)) (input_after c.args.lines.now.held.now.batches c.args.lines.now.held.now.number (prepend_known c.args.lines.now.held.now.buffer (left_of (g.I.Source.known c.args.lines.now.input.now) (g.I.Source.gave c.args.lines.now.input.now)))) rounds
     (g.N.Nodes.tells c.append-ended.new.nodes) (g.G.Register.tells c.append-ended.result.1.now) c.args.words.now.config s (Some (g.O.Sink.written c.args.out.now)) (Some (g.O.Sink.written c.append-ended.new.out)))
     c.args.words.now.rounds c.args.words.now.rounds refl
     (g.N.Nodes.faults c.args.nodes.now) (g.N.Nodes.faults c.append-ended.new.nodes) c.failures-before.result c.failures-now.result c.append-ended.result.0 c.status_of.result c.failures-before.ensures c.failures-now.ensures c.status_of.ensures

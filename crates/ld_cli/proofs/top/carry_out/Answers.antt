@@ -5,7 +5,7 @@ use Rattle.ld_words.specs.declared.command.AppendWords.{AppendWords}
 use Rattle.ld_words.specs.declared.command.TailWords.{TailWords}
 use Rattle.ld_machine.specs.Config.{first_spec}
 use Rattle.ld_machine.specs.Step.{spec_set}
-use Rattle.ld_rounds.specs.Drives.{IsBroken}
+use Rattle.ld_rounds.specs.Drives.{counted}
 use Rattle.ld_rounds.specs.Reaching.{Begins}
 use Rattle.ld_append.specs.Acting.{MayCrowd}
 use Rattle.ld_append.specs.Appends.{HasNone as HasNoSequencers, IsAppended, IsEndOfAppend}
@@ -14,6 +14,7 @@ use Rattle.ld_cli.specs.Payloads.{payloads_in}
 use Rattle.ld_cli.specs.Clients.{Drives, Looks, Calls, Dials, EndsDrive}
 use Rattle.ld_cli.proofs.Asked.{one_node, one_append, one_tail}
 use Rattle.ld_cli.proofs.Drives.{never_usage, disk_stays, append_read_rose, append_write_rose, tail_never_reads, tail_write_rose}
+use Rattle.ld_cli.proofs.Commands.{operates_so, operates_drives, operates_shows, operates_places}
 use Rattle.ld_cli.proofs.top.carry_out.Goals as goal
 
 pub returns-in-Node-clause-complete_node : goal.returns-in-Node-clause-complete_node
@@ -42,10 +43,10 @@ pub returns-in-Append-clause-read : goal.returns-in-Append-clause-read
 returns-in-Append-clause-read g c = append_read_rose _ _ _ _ _ _ _ _ _ _ _ c.appended.result c.appended.ensures.ends
 
 pub returns-in-Append-clause-write : goal.returns-in-Append-clause-write
-returns-in-Append-clause-write g c = append_write_rose _ _ _ _ _ _ _ _ _ _ _ c.appended.result c.appended.ensures.ends
+returns-in-Append-clause-write g c = λ none. append_write_rose _ _ _ _ _ _ _ _ _ _ _ c.appended.result c.appended.ensures.ends
 
 pub returns-in-Append-clause-disk : goal.returns-in-Append-clause-disk
-returns-in-Append-clause-disk g c = disk_stays (g.N.Nodes.faults c.args.nodes.now) (g.N.Nodes.faults c.appended.new.nodes)
+returns-in-Append-clause-disk g c = λ none. disk_stays (g.N.Nodes.faults c.args.nodes.now) (g.N.Nodes.faults c.appended.new.nodes)
     (IsEndOfAppend (g.G.Register.told c.args.reg.now → MayCrowd (g.G.Register.may_hold c.args.reg.now) c.in-Append.append.of.log) (λ place. g.G.Register.told c.args.reg.now → g.G.Register.damaged c.args.reg.now place) (payloads_in c.in-Append.append.batches (left_of (g.I.Source.known c.args.input.now) (g.I.Source.gave c.args.input.now))) (g.I.Source.faults c.args.input.now) (g.I.Source.faults c.appended.new.input) (g.O.Sink.faults c.args.out.now) (g.O.Sink.faults c.appended.new.out)
     (Some (g.O.Sink.written c.args.out.now)) (Some (g.O.Sink.written c.appended.new.out)))
     _ _ c.appended.result c.appended.ensures.ends refl
@@ -73,12 +74,12 @@ returns-in-Tail-clause-read g c = λ is. absurd (tail_never_reads (λ place. g.G
     c.tailed.result c.tailed.ensures.ends is)
 
 pub returns-in-Tail-clause-write : goal.returns-in-Tail-clause-write
-returns-in-Tail-clause-write g c = tail_write_rose (λ place. g.G.Register.told c.args.reg.now → g.G.Register.damaged c.args.reg.now place) (g.N.Nodes.faults c.args.nodes.now) (g.N.Nodes.faults c.tailed.new.nodes)
+returns-in-Tail-clause-write g c = λ none. tail_write_rose (λ place. g.G.Register.told c.args.reg.now → g.G.Register.damaged c.args.reg.now place) (g.N.Nodes.faults c.args.nodes.now) (g.N.Nodes.faults c.tailed.new.nodes)
     (g.G.Register.faults c.args.reg.now) (g.G.Register.faults c.tailed.new.reg) (g.O.Sink.faults c.args.out.now) (g.O.Sink.faults c.tailed.new.out)
     c.tailed.result c.tailed.ensures.ends
 
 pub returns-in-Tail-clause-disk : goal.returns-in-Tail-clause-disk
-returns-in-Tail-clause-disk g c = disk_stays (g.N.Nodes.faults c.args.nodes.now) (g.N.Nodes.faults c.tailed.new.nodes)
+returns-in-Tail-clause-disk g c = λ none. disk_stays (g.N.Nodes.faults c.args.nodes.now) (g.N.Nodes.faults c.tailed.new.nodes)
     (IsTailEnd (λ place. g.G.Register.told c.args.reg.now → g.G.Register.damaged c.args.reg.now place) (g.G.Register.faults c.args.reg.now) (g.G.Register.faults c.tailed.new.reg) (g.O.Sink.faults c.args.out.now) (g.O.Sink.faults c.tailed.new.out))
     _ _ c.tailed.result c.tailed.ensures.ends refl
 
@@ -97,7 +98,7 @@ returns-in-Tail-clause-tailed g c = λ t s far is told begins.
     subst
     (λ (u : TailWords).
     (g.N.Nodes.silent c.tailed.new.nodes ≡ true) ⊎ EndsDrive (g.N.Nodes.faults c.args.nodes.now) (g.N.Nodes.faults c.tailed.new.nodes)
-    (IsTailed (record { name = codes "r"; log = u.of.log; from = u.from; until = u.until; style = u.style }) (IsBroken (g.N.Nodes.faults c.args.nodes.now) (g.N.Nodes.faults c.tailed.new.nodes) (g.N.Nodes.endings c.args.nodes.now) (g.N.Nodes.endings c.tailed.new.nodes))
+    (IsTailed (record { name = codes "r"; log = u.of.log; from = u.from; until = u.until; style = u.style }) (counted (g.N.Nodes.faults c.args.nodes.now) (g.N.Nodes.faults c.tailed.new.nodes) (g.N.Nodes.endings c.args.nodes.now) (g.N.Nodes.endings c.tailed.new.nodes))
     u.of.rounds (g.N.Nodes.tells c.tailed.new.nodes) (g.G.Register.tells c.tailed.new.reg) u.of.config s (Some (g.O.Sink.written c.args.out.now)) (Some (g.O.Sink.written c.tailed.new.out))) c.tailed.result)
     (sym same)
     (c.tailed.ensures.tailed s far (subst (λ (u : TailWords). g.N.Nodes.tells c.args.nodes.now u.of.config far) same told) (subst (λ (u : TailWords). Begins (HasNoReaders (g.G.Register.tells c.args.reg.now)) u.of.config s far) same begins))
@@ -108,10 +109,10 @@ returns-in-Append-clause-appended g c = λ w s far is told begins unset.
     subst
     (λ (u : AppendWords).
     (g.N.Nodes.silent c.appended.new.nodes ≡ true) ⊎ EndsDrive (g.N.Nodes.faults c.args.nodes.now) (g.N.Nodes.faults c.appended.new.nodes)
-    (IsAppended (codes "s") u.of.log (IsBroken (g.N.Nodes.faults c.args.nodes.now) (g.N.Nodes.faults c.appended.new.nodes) (g.N.Nodes.endings c.args.nodes.now) (g.N.Nodes.endings c.appended.new.nodes))
+    (IsAppended (codes "s") u.of.log (counted (g.N.Nodes.faults c.args.nodes.now) (g.N.Nodes.faults c.appended.new.nodes) (g.N.Nodes.endings c.args.nodes.now) (g.N.Nodes.endings c.appended.new.nodes))
     (payloads_in u.batches (left_of (g.I.Source.known c.args.input.now) (g.I.Source.gave c.args.input.now))) u.of.rounds (g.N.Nodes.tells c.appended.new.nodes) (g.G.Register.tells c.appended.new.reg) u.of.config s (Some (g.O.Sink.written c.args.out.now)) (Some (g.O.Sink.written c.appended.new.out))) c.appended.result)
     (sym same)
-    (c.appended.ensures.appended s far (subst (λ (u : AppendWords). g.N.Nodes.tells c.args.nodes.now u.of.config far) same told) (subst (λ (u : AppendWords). Begins (HasNoSequencers (g.G.Register.tells c.args.reg.now)) u.of.config s far) same begins) (subst (λ (u : AppendWords). spec_set u.of.config s u.of.log ≡ first_spec u.of.config u.of.log) same unset))
+    (c.appended.ensures.appended s far (subst (λ (u : AppendWords). g.N.Nodes.tells c.args.nodes.now u.of.config far) same told) (subst (λ (u : AppendWords). Begins (HasNoSequencers (codes "s") (g.G.Register.tells c.args.reg.now)) u.of.config s far) same begins) (subst (λ (u : AppendWords). spec_set u.of.config s u.of.log ≡ first_spec u.of.config u.of.log) same unset))
 
 pub returns-in-Append-clause-off : goal.returns-in-Append-clause-off
 returns-in-Append-clause-off g c = λ is. c.appended.ensures.off
@@ -142,3 +143,26 @@ returns-in-Append-clause-ended g c = λ is. c.appended.ensures.ended
 
 pub returns-in-Tail-clause-ended : goal.returns-in-Tail-clause-ended
 returns-in-Tail-clause-ended g c = λ is. c.tailed.ensures.ended
+
+-- the commands that are left
+
+pub operated-requires-clause-operates : goal.operated-requires-clause-operates
+operated-requires-clause-operates g c = operates_so c.args.command c.in_default.not-Replay c.in_default.not-Exercise c.in_default.not-Node c.in_default.not-Crowd c.in_default.not-Append c.in_default.not-Tail c.in_default.not-Register c.in_default.not-Status
+
+pub returns-in_default-clause-off : goal.returns-in_default-clause-off
+returns-in_default-clause-off g c = λ no. absurd (operates_drives c.args.command (operates_so c.args.command c.in_default.not-Replay c.in_default.not-Exercise c.in_default.not-Node c.in_default.not-Crowd c.in_default.not-Append c.in_default.not-Tail c.in_default.not-Register c.in_default.not-Status) no)
+
+pub returns-in_default-clause-ended : goal.returns-in_default-clause-ended
+returns-in_default-clause-ended g c = λ no. absurd (operates_drives c.args.command (operates_so c.args.command c.in_default.not-Replay c.in_default.not-Exercise c.in_default.not-Node c.in_default.not-Crowd c.in_default.not-Append c.in_default.not-Tail c.in_default.not-Register c.in_default.not-Status) no)
+
+pub returns-in_default-clause-driven : goal.returns-in_default-clause-driven
+returns-in_default-clause-driven g c = λ no. absurd (operates_drives c.args.command (operates_so c.args.command c.in_default.not-Replay c.in_default.not-Exercise c.in_default.not-Node c.in_default.not-Crowd c.in_default.not-Append c.in_default.not-Tail c.in_default.not-Register c.in_default.not-Status) no)
+
+pub returns-in_default-clause-shows : goal.returns-in_default-clause-shows
+returns-in_default-clause-shows g c = λ no. absurd (operates_shows c.args.command (operates_so c.args.command c.in_default.not-Replay c.in_default.not-Exercise c.in_default.not-Node c.in_default.not-Crowd c.in_default.not-Append c.in_default.not-Tail c.in_default.not-Register c.in_default.not-Status) no)
+
+pub returns-in_default-clause-untold : goal.returns-in_default-clause-untold
+returns-in_default-clause-untold g c = λ no. absurd (operates_shows c.args.command (operates_so c.args.command c.in_default.not-Replay c.in_default.not-Exercise c.in_default.not-Node c.in_default.not-Crowd c.in_default.not-Append c.in_default.not-Tail c.in_default.not-Register c.in_default.not-Status) no)
+
+pub returns-in_default-clause-outside : goal.returns-in_default-clause-outside
+returns-in_default-clause-outside g c = λ no. absurd (operates_places c.args.command (operates_so c.args.command c.in_default.not-Replay c.in_default.not-Exercise c.in_default.not-Node c.in_default.not-Crowd c.in_default.not-Append c.in_default.not-Tail c.in_default.not-Register c.in_default.not-Status) no)
