@@ -1,5 +1,5 @@
 """What bounds a node or a log on this machine, as the scripts beside this file measure it in their own run."""
-import os, socket, time
+import os, select, socket, time
 
 
 def two_syncs(folder, size, seconds):
@@ -21,6 +21,18 @@ def two_syncs(folder, size, seconds):
     return count / took
 
 
+def whole_frames(held):
+    """Takes the frames that are whole out of what is held: how many they are."""
+    at = count = 0
+    while len(held) - at >= 4:
+        end = at + 4 + int.from_bytes(held[at : at + 4], "big")
+        if len(held) < end:
+            break
+        at, count = end, count + 1
+    del held[:at]
+    return count
+
+
 def serve_straight(folder, size, answer):
     """A process that writes a record with two syncs straight to a file for each frame that it is sent, and then answers: its port, and its number."""
     listener = socket.create_server(("127.0.0.1", 0))
@@ -36,19 +48,53 @@ def serve_straight(folder, size, answer):
     record, at, held = bytes(size + 30), 0, bytearray()
     while piece := peer.recv(1 << 18):
         held += piece
-        begun = 0
-        while len(held) - begun >= 4:
-            end = begun + 4 + int.from_bytes(held[begun : begun + 4], "big")
-            if len(held) < end:
-                break
+        for _ in range(whole_frames(held)):
             os.pwrite(file, record, at + 1)
             os.fdatasync(file)
             os.pwrite(file, b"\1", at)
             os.fdatasync(file)
             peer.sendall(answer)
-            at, begun = at + len(record), end
-        del held[:begun]
+            at += len(record)
     os._exit(0)
+
+
+def serve_groups(folder, size, answer):
+    """A process that makes the file calls of a node that commits in groups, for the frames of all its peers that are there: its port, and its number."""
+    listener = socket.create_server(("127.0.0.1", 0), backlog=128)
+    port, child = listener.getsockname()[1], os.fork()
+    if child != 0:
+        listener.close()
+        return port, child
+    file = os.open(f"{folder}/served", os.O_RDWR | os.O_CREAT)
+    os.pwrite(file, b"\0", 0)
+    os.fsync(file)
+    record, at, held = bytes(size + 30), 0, {}
+    while True:
+        due = []
+        for ready in select.select([listener, *held], [], [])[0]:
+            if ready is listener:
+                peer, _ = listener.accept()
+                peer.setsockopt(socket.IPPROTO_TCP, socket.TCP_NODELAY, 1)
+                held[peer] = bytearray()
+                continue
+            piece = ready.recv(1 << 18)
+            if not piece:
+                del held[ready]
+                continue
+            held[ready] += piece
+            due.append((ready, whole_frames(held[ready])))
+        for begun in range(0, sum(count for _, count in due), 128):
+            gate = at
+            for k in range(min(128, sum(count for _, count in due) - begun)):
+                os.pwrite(file, record, at + 1)
+                if k > 0:
+                    os.pwrite(file, b"\1", at)
+                at += len(record)
+            os.fdatasync(file)
+            os.pwrite(file, b"\1", gate)
+            os.fdatasync(file)
+        for peer, count in due:
+            peer.sendall(answer * count)
 
 
 def round_trips(seconds):

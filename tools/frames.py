@@ -224,10 +224,10 @@ class NodesAt(Nodes):
 
     def __init__(self, program, folder, hosts, copies):
         super().__init__(program, folder, len(hosts), copies)
-        self.hosts, self.addresses = hosts, {}
+        self.hosts, self.addresses, self.said = hosts, {}, {}
 
     def start_at(self, node, with_format=False, within=20):
-        """Starts a node, and finds its address by the line that it writes where standard error is a terminal."""
+        """Starts a node, keeps the lines that it writes where standard error is a terminal, and finds its address by the last one."""
         words = self.words(node, 0)
         at = words.index("--port")
         words[at:at + 2] = ["--listen", f"{self.hosts[node]}:0"]
@@ -235,15 +235,16 @@ class NodesAt(Nodes):
         self.processes[node] = subprocess.Popen(words + ["--format"] * with_format, stdin=subprocess.DEVNULL, stdout=subprocess.DEVNULL, stderr=theirs)
         os.close(theirs)
         said, end = b"", time.monotonic() + within
-        while not said.endswith(b"\n") and select.select([ours], [], [], max(0, end - time.monotonic()))[0]:
+        while not (said.endswith(b"\n") and b"ld: listening on " in said) and select.select([ours], [], [], max(0, end - time.monotonic()))[0]:
             try:
                 said += os.read(ours, 1024)
             except OSError:
                 break
         os.close(ours)
-        line = said.decode(errors="replace").strip()
+        self.said[node] = lines = said.decode(errors="replace").splitlines()
+        line = lines[-1] if lines else ""
         if not line.startswith("ld: listening on ") or line.startswith("ld: listening on port"):
-            raise NotUp(f"node {node} said {line!r}")
+            raise NotUp(f"node {node} said {lines!r}")
         self.addresses[node] = f"{self.hosts[node]}:{line.rsplit(':', 1)[1]}"
         return line.removeprefix("ld: listening on ")
 

@@ -241,7 +241,7 @@ TAILS = [
     ("--from e1n1 --until e4294967296n0", "--until isn't a number eXnY"),
     ("--from e01n1 --until e1n1", "--from isn't a number eXnY"),
     ("--from 1 --until e1n1", "--from isn't a number eXnY"),
-    ("--from e1n1", "--until has no value"),
+    ("--from e1n1", "--until isn't given"),
     ("--until e1n1", ""),
     ("--from e1n1 --until e1n1 --follow", "--until and --follow can't be given at once"),
     ("--from e1n1 --until e1n1 --pause 5", "--pause can't be given without --follow"),
@@ -261,7 +261,9 @@ REGISTERS = [
     ("--log 1 --from 4294967296", "--from isn't a number from 1 to 4294967295"),
     ("--log 1 --from e1n1", "--from isn't a number"),
     ("--log 1 --port 7000", ""),
-    ("--from 1", ""),
+    ("--from 1", "--log isn't given"),
+    ("--log 1 --json --json", ""),
+    ("--log 1 --copy s", "--copy and --config can't be given at once"),
 ]
 STATUSES = [
     ("--log 1", "one of --port and --at has to be given"),
@@ -272,6 +274,56 @@ STATUSES = [
     ("--log 1 --port 7000 --at {}", "--port and --at can't be given at once"),
     ("--log 1 --at {}", "--at is refused: node 1 of the configuration has no address"),
     ("--log 1 --port 7000 --rounds 1", ""),
+    ("--log 1 --port 7000 --json=true", ""),
+]
+
+# The same of `register --copy`, behind its register.
+COPIES = [
+    ("--log 1", "--config isn't given"),
+    ("--copy r", "--copy and --register are the same file"),
+    ("--copy s --log 1", "--copy and --log can't be given at once"),
+    ("--copy s --from 1", "--copy and --from can't be given at once"),
+    ("--copy s --json", "--copy and --json can't be given at once"),
+    ("--copy s --copy s", ""),
+    ("--copy s", "--register is r, and a register is copied to one in etcd alone"),
+]
+
+# The same of `mend`, of `replace` and of `show` over three nodes, behind configuration and store.
+MENDS = [
+    ("--register r --id 1 --port 1", ""),
+    ("--register r --id 1 --rounds 1", "one of --port and --at has to be given"),
+    ("--register r --id 4 --port 1 --rounds 1", "--id is 4, which isn't one of the configuration's nodes"),
+    ("--register r --id 17 --port 1 --rounds 1", "--id isn't a number from 1 to 16"),
+    ("--register s --id 1 --port 1 --rounds 1", "--store and --register are the same file"),
+    ("--register r --id 1 --port 1 --rounds 0", "--rounds isn't a number from 1 to 1000000"),
+    ("--register r --id 1 --port 1 --rounds 1000001", "--rounds isn't a number from 1 to 1000000"),
+    ("--register r --id 1 --port 1 --rounds 1 --limit 99", "--limit isn't a number from 100 to 60000"),
+    ("--register r --id 1 --port 1 --rounds 1 --log 1", ""),
+]
+REPLACES = [
+    ("--register r --id 1 --log 1", ""),
+    ("--register r --id 1 --of 1 --log 1", "--id and --of are the same node"),
+    ("--register r --id 1 --of 4 --log 1", "--of is 4, which isn't one of the configuration's nodes"),
+    ("--register r --id 1 --of 17 --log 1", "--of isn't a number from 1 to 16"),
+    ("--register r --id 4 --of 1 --log 1", "--id is 4, which isn't one of the configuration's nodes"),
+    ("--register r --id 1 --of 2 --log 9", "--log is 9, which isn't one of the configuration's logs"),
+    ("--register s --id 1 --of 2 --log 1", "--store and --register are the same file"),
+]
+SHOWS = [
+    ("--id 4", "--id is 4, which isn't one of the configuration's nodes"),
+    ("--id 0", "--id isn't a number from 1 to 16"),
+    ("--id 1 --register r", ""),
+    ("--json", ""),
+]
+
+# The same of `trim` over the logs 1 and 65,535, behind configuration, register and rounds.
+TRIMS = [
+    ("--log 1 --port 1", ""),
+    ("--log 1 --port 1 --upto e0n0", "--upto is e0n0, which trims nothing"),
+    ("--log 1 --port 1 --upto 1", "--upto isn't a number eXnY"),
+    ("--log 2 --port 1 --upto e1n1", "--log is 2, which isn't one of the configuration's logs"),
+    ("--log 1 --upto e1n1", "one of --port and --at has to be given"),
+    ("--log 1 --port 1 --upto e1n1 --move", ""),
 ]
 
 
@@ -295,6 +347,16 @@ def refused():
         yield ["register", "--config", LOGS, "--register", "r", *line.split()], reason
     for line, reason in STATUSES:
         yield ["status", "--config", LOGS, "--register", "r", *line.split()], reason
+    for line, reason in COPIES:
+        yield ["register", "--register", "r", *line.split()], reason
+    for line, reason in MENDS:
+        yield ["mend", "--config", NODE, "--store", "s", *line.split()], reason
+    for line, reason in REPLACES:
+        yield ["replace", "--config", NODE, "--store", "s", *line.split()], reason
+    for line, reason in SHOWS:
+        yield ["show", "--config", NODE, "--store", "s", *line.split()], reason
+    for line, reason in TRIMS:
+        yield ["trim", "--config", LOGS, "--register", "r", "--rounds", "9", *line.split()], reason
     for line, reason in APPENDS:
         yield ["append", "--config", LOGS, "--register", "r", *line.split()], reason
     for line, reason in TAILS:
