@@ -33,16 +33,24 @@ def whole_frames(held):
     return count
 
 
-def serve_straight(folder, size, answer):
-    """A process that writes a record with two syncs straight to a file for each frame that it is sent, and then answers: its port, and its number."""
-    listener = socket.create_server(("127.0.0.1", 0))
+def served(folder):
+    """A process that listens and has a file of its own: the listener, its port, the process's number, which is 0 in itself, and the file, which only it has."""
+    listener = socket.create_server(("127.0.0.1", 0), backlog=128)
     port, child = listener.getsockname()[1], os.fork()
     if child != 0:
         listener.close()
-        return port, child
+        return None, port, child, None
     file = os.open(f"{folder}/served", os.O_RDWR | os.O_CREAT)
     os.pwrite(file, b"\0", 0)
     os.fsync(file)
+    return listener, port, child, file
+
+
+def serve_straight(folder, size, answer):
+    """A process that writes a record with two syncs straight to a file for each frame that it is sent, and then answers: its port, and its number."""
+    listener, port, child, file = served(folder)
+    if child != 0:
+        return port, child
     peer, _ = listener.accept()
     peer.setsockopt(socket.IPPROTO_TCP, socket.TCP_NODELAY, 1)
     record, at, held = bytes(size + 30), 0, bytearray()
@@ -60,14 +68,9 @@ def serve_straight(folder, size, answer):
 
 def serve_groups(folder, size, answer):
     """A process that makes the file calls of a node that commits in groups, for the frames of all its peers that are there: its port, and its number."""
-    listener = socket.create_server(("127.0.0.1", 0), backlog=128)
-    port, child = listener.getsockname()[1], os.fork()
+    listener, port, child, file = served(folder)
     if child != 0:
-        listener.close()
         return port, child
-    file = os.open(f"{folder}/served", os.O_RDWR | os.O_CREAT)
-    os.pwrite(file, b"\0", 0)
-    os.fsync(file)
     record, at, held = bytes(size + 30), 0, {}
     while True:
         due = []
