@@ -21,13 +21,14 @@ use Rattle.ld_host.specs.Lies.{IsWhole, IsCut, Rests, Lies}
 use Rattle.ld_host.proofs.Fates.{AllMade, Stops, after_one, stopped_sync, sync_stops}
 use Rattle.ld_host.proofs.Keeping.{made_whole}
 use Rattle.ld_host.proofs.Versions.{laid_ops, laid_sound}
+use Rattle.ld_layout.specs.declared.segment.Growth.TheVariants.{Still}
 
 -- the bytes lie as what a load finds, and represent it
 pub record Finds (bytes : List ℕ) (p : Plain) (y : Layout) : Type 0 where
   pub slots : Slots
   pub lies : LiesAs (written y) y slots bytes
   pub sound : IsSound y
-  pub still : y.grows ≡ false
+  pub still : y.grows ≡ Still
   pub plain : p ≡ read_plain bytes y.index
   pub formatted : (p.generation == 0) ≡ (y.ops == 0)
 
@@ -84,7 +85,7 @@ module _ (y : Layout) (z : Slots) (p : Plain) (k : Cut) (s : State) (cut : IsCut
         slots = left.0;
         lies = left.1.lies;
         sound = choose (λ q l. IsSound l) (sound_kept y cut.op w.sound cut.next) (laid_sound y cut.op w.sound cut.next) w.sound;
-        still = choose (λ q l. l.grows ≡ false) (kept_growing y cut.op ∙ w.still) (laid_growing y cut.op 0 ∙ w.still) w.still;
+        still = choose (λ q l. l.grows ≡ Still) (kept_growing y cut.op ∙ w.still) (laid_growing y cut.op 0 ∙ w.still) w.still;
         plain = ap (λ q. plain_left q y cut.op k.call cut.how cut.later) w.plain ∙ sym left.1.plain;
         formatted = choose (λ q l. (q.generation == 0) ≡ (l.ops == 0)) (ap (λ q. q.generation == 0) (sym cut.plain) ∙ cut.formatted ∙ sym (kept_ops y cut.op (slots_with y z (op_length cut.op)) (all_made (op_row y z cut.op) cut.before.state).bytes (made_whole y z p cut.op cut.before.state cut.next w).lies))
             (formatted ∙ sym (laid_ops y cut.op)) formatted;

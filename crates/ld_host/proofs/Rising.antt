@@ -34,6 +34,7 @@ use Rattle.ld_host.proofs.Fates.{AllMade, Stops, fates, after_one, succeeds_one}
 use Rattle.ld_host.proofs.Versions.{not_of_first}
 use Rattle.ld_host.proofs.Loading.{finds, stands_for, one_sync, synced_is, loaded_lies, stopped_lies, cut_then}
 use Rattle.ld_host.proofs.Ending.{failed_stands, down_stands}
+use Rattle.ld_layout.specs.declared.segment.Growth.TheVariants.{Still}
 
 -- what is known of a call that was refused, by its clauses
 pub if_refused : (r : Result (State × HostKept) NoMemory) (fault : NodeFault) (q : DiskPlain) (P : State × HostKept → Type 0)
@@ -66,7 +67,7 @@ module _ (c : Config) (n : ℕ) (p : DiskPlain) (x : Node) (lies : Lies p x) whe
 
   -- ---- it comes up ----
 
-  module _ {g : Ghosts MemDisk} (node : Running MemDisk g) (opened : IsOpened seen_in leaves_of node p.state.bytes) (still : (layout_of node).grows ≡ false) (disk : disk_plain (disk_of node) ≡ after_call None p) (works : succeeds p ≡ true) where
+  module _ {g : Ghosts MemDisk} (node : Running MemDisk g) (opened : IsOpened seen_in leaves_of node p.state.bytes) (still : (layout_of node).grows ≡ Still) (disk : disk_plain (disk_of node) ≡ after_call None p) (works : succeeds p ≡ true) where
     -- what the load found is what lies there
     holds_now : Holds seen_in leaves_of node
     holds_now = opened.holds (found x x.cut) stands_found

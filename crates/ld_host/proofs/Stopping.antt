@@ -12,6 +12,7 @@ use Rattle.ld_op.specs.Plain.{unformatted}
 use Rattle.ld_layout.specs.Layout.{new_layout, AreHeld}
 use Rattle.ld_segment.specs.Lies.{Slots, LiesAs, IsSound}
 use Rattle.ld_segment.proofs.Before.{first_laid}
+use Rattle.ld_layout.specs.declared.segment.Growth.TheVariants.{Still}
 use Rattle.ld_segment.proofs.Listed.{new_index}
 use Rattle.ld_node.specs.Node.{id_of, known_of, released_of, disk_of, layout_of, slots_of, Holds}
 use Rattle.ld_node.specs.declared.node.Node.{Node as Running}
@@ -50,7 +51,7 @@ none_held : AreHeld new_layout
 none_held l n g e q at_l at_n what = absurd (let none : None ≡ Some g = sym (find-empty l) ∙ at_l in cc none)
 
 new_sound : IsSound new_layout
-new_sound = record { laid = first_laid 0 0 unformatted false; held = none_held; index = new_index; bounded = tt }
+new_sound = record { laid = first_laid 0 0 unformatted Still; held = none_held; index = new_index; bounded = tt }
 
 new_lies : Lies new_disk new_node
 new_lies = record {

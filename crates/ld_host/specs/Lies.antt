@@ -11,13 +11,14 @@ use Rattle.ld_layout.specs.Layout.{Layout, laid_for, kept_in}
 use Rattle.ld_segment.specs.Lies.{Slots, LiesAs, IsSound, MayKeep, written, op_row, switching}
 use Rattle.ld_machine.specs.Disk.{Node, Cut}
 use Rattle.ld_host.specs.Faults.{pictures_of, IsArmed}
+use Rattle.ld_layout.specs.declared.segment.Growth.TheVariants.{Still}
 
 -- all that is read is safe, lies as the layout says, with these slots, and represents this plain state
 pub record IsWhole (y : Layout) (z : Slots) (p : Plain) (s : State) : Type 0 where
   pub lies : LiesAs (written y) y z s.bytes
   pub sound : IsSound y
   -- a host lets the room of no segment grow
-  pub still : y.grows ≡ false
+  pub still : y.grows ≡ Still
   pub plain : p ≡ read_plain s.bytes y.index
   pub safe : IsSafe s.bytes s
 

@@ -19,6 +19,7 @@ use Rattle.ld_layout.specs.declared.segment.Segment.{Segment as Stretch}
 use Rattle.ld_layout.specs.declared.segment.Layout.{Layout as Plan}
 use Rattle.ld_layout.specs.LaidOut.{is_past, segment_of, passes_first, laid_out, later_of, gate_behind, recorded, recorded_in, more_ops}
 use Rattle.ld_layout.proofs.Lengths.{base_long, areas_long}
+use Rattle.ld_layout.specs.declared.segment.Growth.{Growth}
 
 -- ---- a Base's length ----
 
@@ -60,7 +61,7 @@ count_is p areas n h l = let a = counts_same p.logs in let b = logs_most p.logs 
 
 -- ---- the segment ----
 
-pub segment_is : (place base entries room number : ℕ) (areas : List (ℕ × ℕ)) (grows : Bool) (g : Segment) → g.place ≡ place → g.based ≡ entries → g.ops ≡ 0 → g.end ≡ g.place + 5 + base → g.limit ≡ g.place + 6 + base + room → g.areas ≡ areas → g.number ≡ number → g.grows ≡ grows
+pub segment_is : (place base entries room number : ℕ) (areas : List (ℕ × ℕ)) (grows : Growth) (g : Segment) → g.place ≡ place → g.based ≡ entries → g.ops ≡ 0 → g.end ≡ g.place + 5 + base → g.limit ≡ g.place + 6 + base + room → g.areas ≡ areas → g.number ≡ number → g.grows ≡ grows
     → g ≡ segment_at place base entries room areas number grows
 segment_is place base entries room number areas grows g a b o e l s n w =
     let f : g.end ≡ place + 5 + base = e ∙ ap (λ k. k + 5 + base) a in
@@ -85,7 +86,7 @@ switched_is y g index cause room h = λ i. record { ops = y.ops; end = y.end; la
 
 -- ---- a record more ----
 
-recorded_by : (grows : Bool) (ops end : ℕ) (later : Option Stretch) (index : Plain) (o : Op) → laid_out (recorded_in grows ops end later (op_length o) true) (apply index (placed (gate_behind end later + 5) o)) ≡ with_record (record { ops = ops; end = end; later = later_of later; index = index; grows = grows }) o
+recorded_by : (grows : Growth) (ops end : ℕ) (later : Option Stretch) (index : Plain) (o : Op) → laid_out (recorded_in grows ops end later (op_length o) true) (apply index (placed (gate_behind end later + 5) o)) ≡ with_record (record { ops = ops; end = end; later = later_of later; index = index; grows = grows }) o
 unfolding with_record
 recorded_by grows ops end None index o = refl
 recorded_by grows ops end (Some g) index o = refl
@@ -141,7 +142,7 @@ module _ (y : Layout) (o : Op) where
   unfolding switched_to
   passes_then body e s = passes_by true (ap (switches y) e ∙ s) ∙ ap (λ n. is_past y.index (new_segment y (record_length n) (record_length n))) e
 
-else_by : (grows : Bool) (ops end : ℕ) (later : Option Stretch) (index : Plain) (o : Op) → passed_by (record { ops = ops; end = end; later = later_of later; index = index; grows = grows }) o false (later_of later) ≡ passes_first end (op_length o) later
+else_by : (grows : Growth) (ops end : ℕ) (later : Option Stretch) (index : Plain) (o : Op) → passed_by (record { ops = ops; end = end; later = later_of later; index = index; grows = grows }) o false (later_of later) ≡ passes_first end (op_length o) later
 else_by grows ops end None index o = refl
 else_by grows ops end (Some g) index o = refl
 

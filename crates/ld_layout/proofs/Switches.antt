@@ -10,7 +10,7 @@ use Rattle.ld_msg.specs.Register.{record_length}
 use Rattle.ld_op.specs.declared.op.Op.{Op}
 use Rattle.ld_op.specs.Plain.{Plain, op_length}
 use Rattle.ld_layout.specs.Areas.{IsApart, AreLive, IsLonger, AreShrunk, least_place}
-use Rattle.ld_layout.specs.Layout.{Layout, Segment, head_end, used, holds_payload, base_length, closed_areas, live_areas, least_for, room_for, new_segment, switched_to, full_ops, is_first, is_full_first, is_full_later, switches, later_with, with_record, new_layout, IfSegment, IsLaid}
+use Rattle.ld_layout.specs.Layout.{Layout, Segment, head_end, used, holds_payload, base_length, closed_areas, live_areas, least_for, room_for, new_segment, switched_to, full_for, is_first, is_full_first, is_full_later, switches, later_with, with_record, new_layout, IfSegment, IsLaid}
 use Rattle.ld_layout.proofs.Live.{live_next, free_of_each, rise_of}
 use Rattle.ld_layout.proofs.Free.{is_free}
 
@@ -141,7 +141,7 @@ one_live k v = record {
     only i a found = ⊎_elim (λ here. here.0) (λ there. absurd (let none : None ≡ Some a = sym (there.1 ∙ find-empty i) ∙ found in cc none)) (put_cases i k v [])
 
 fits_area : (body : ℕ) (g : Segment) → is_full_later body (Some g) ≡ false → g.end + record_length body < g.limit
-fits_area body g not_full = leb-false g.limit (g.end + record_length body) (or_parts (nat_le (max full_ops g.based) g.ops) (nat_le g.limit (g.end + record_length body)) not_full).1
+fits_area body g not_full = leb-false g.limit (g.end + record_length body) (or_parts (nat_le (max (full_for g.grows) g.based) g.ops) (nat_le g.limit (g.end + record_length body)) not_full).1
 
 record_laid_by : (y : Layout) (o : Op) (g : Option Segment) → y.later ≡ g → IfSegment g → AreLive (live_areas y g) → is_full_later (op_length o) g ≡ false
     → AreLive (live_areas (record (with_record y o) { end = if is_first g then y.end + record_length (op_length o) else y.end }) (later_with g (op_length o))) × IfSegment (later_with g (op_length o))

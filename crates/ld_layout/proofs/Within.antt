@@ -8,12 +8,13 @@ use Rattle.ld_table.specs.Table.{put}
 use Rattle.ld_msg.specs.Register.{record_length, journal_limit}
 use Rattle.ld_op.specs.Plain.{Plain}
 use Rattle.ld_layout.specs.Areas.{least_place}
-use Rattle.ld_layout.specs.Layout.{head_end, full_ops, switches, live_areas, least_for, room_for, used, closed_areas, base_length, new_segment}
+use Rattle.ld_layout.specs.Layout.{head_end, full_for, switches, live_areas, least_for, room_for, used, closed_areas, base_length, new_segment}
 use Rattle.ld_layout.specs.declared.segment.Segment.{Segment as Stretch}
 use Rattle.ld_layout.specs.declared.segment.Layout.{Layout as Plan}
 use Rattle.ld_layout.specs.LaidOut.{segment_of, later_of, laid_out, gate_behind, ops_behind, is_past, passes_first, more_ops, recorded_in, is_within_later}
 use Rattle.ld_layout.proofs.Free.{no_less}
 use Rattle.ld_layout.proofs.Copies.{place_later}
+use Rattle.ld_layout.specs.declared.segment.Growth.{Growth}
 
 -- ---- what is within, by numbers ----
 
@@ -51,7 +52,7 @@ few_more : (is_op : Bool) (ops : ℕ) → more_ops is_op ops ≤ ops + 1
 few_more true ops = omega arith
 few_more false ops = omega arith
 
-pub record_within : (grows : Bool) (ops end : ℕ) (later : Option Stretch) (index : Plain) (body : ℕ) (is_op : Bool) → (nat_le end journal_limit && is_within_later ops end later) ≡ true
+pub record_within : (grows : Growth) (ops end : ℕ) (later : Option Stretch) (index : Plain) (body : ℕ) (is_op : Bool) → (nat_le end journal_limit && is_within_later ops end later) ≡ true
     → switches (record { ops = ops; end = end; later = later_of later; index = index; grows = grows }) body ≡ false → passes_first end body later ≡ false
     → (nat_le (recorded_in grows ops end later body is_op).end journal_limit && is_within_later (recorded_in grows ops end later body is_op).ops (recorded_in grows ops end later body is_op).end (recorded_in grows ops end later body is_op).later) ≡ true
 unfolding switches
@@ -64,7 +65,7 @@ record_within grows ops end None index body is_op w s p =
 record_within grows ops end (Some g) index body is_op w s p =
     let a = and_parts (nat_le end journal_limit) (is_within_later ops end (Some g)) w in
     let e = ends_of ops end g a.1 in
-    let l = leb-false g.limit (g.end + record_length body) (or_parts (nat_le (max full_ops g.based) g.ops) (nat_le g.limit (g.end + record_length body)) s).1 in
+    let l = leb-false g.limit (g.end + record_length body) (or_parts (nat_le (max (full_for g.grows) g.based) g.ops) (nat_le g.limit (g.end + record_length body)) s).1 in
     let b = ends_within ops end (record g { ops = more_ops is_op g.ops; end = g.end + record_length body }) (record {
       place = e.place;
       ops = let m = few_more is_op g.ops in omega (arith, e.ops);
@@ -106,7 +107,7 @@ past_it size h m l b =
     let n = no_less size (max 0 (0 + h)) b.rest in
     omega arith
 
-live_first : (grows : Bool) (ops end : ℕ) (later : Option Stretch) (index : Plain) → is_within_later ops end later ≡ true → BeginWith (head_end end) (live_areas (record { ops = ops; end = end; later = later_of later; index = index; grows = grows }) (later_of later))
+live_first : (grows : Growth) (ops end : ℕ) (later : Option Stretch) (index : Plain) → is_within_later ops end later ≡ true → BeginWith (head_end end) (live_areas (record { ops = ops; end = end; later = later_of later; index = index; grows = grows }) (later_of later))
 live_first grows ops end None index w = record { rest = []; is = refl }
 live_first grows ops end (Some g) index w = let e = ends_of ops end g w in put_behind (head_end end) g.place _ _ (omega (arith, e.place)) (put_first (head_end end) g.areas)
 

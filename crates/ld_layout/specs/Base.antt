@@ -10,7 +10,7 @@ abbrev pub areas_based : List (ℕ × ℕ) → List ℕ
 areas_based [] = []
 areas_based (a ∷ areas) = big_bytes 8 a.0 ++ (big_bytes 8 a.1 ++ areas_based areas)
 
--- the first byte is 13, or 14 where the segment's room grows with its Base; in a journal of the first version, in which no epoch was closed with a loss, it is 9
+-- the first byte is 13, or 14 where the segment's room grows with its Base, or 15 where it is also wide; in a journal of the first version, in which no epoch was closed with a loss, it is 9
 unfoldable pub base_bytes : ℕ → Plain → List (ℕ × ℕ) → List ℕ
 base_bytes kind p areas = big_bytes 1 kind ++ (index_bytes p ++ (big_bytes 4 (length areas) ++ areas_based areas))
 
@@ -23,8 +23,12 @@ pub record Base : Type 0 where
 unfoldable pub read_area : List ℕ → ℕ → ℕ → Read (ℕ × ℕ)
 read_area bs least at = follow (field 8 bs at) (λ place at_length. check (nat_le least place) at (follow (field 8 bs at_length) (λ length next. Got (place, length) next)))
 
+-- the first bytes of a Base of the second version
+abbrev pub is_second_kind : ℕ → Bool
+is_second_kind kind = (kind == 13) || ((kind == 14) || (kind == 15))
+
 abbrev pub is_base_kind : ℕ → Bool
-is_base_kind kind = (kind == 9) || ((kind == 13) || (kind == 14))
+is_base_kind kind = (kind == 9) || is_second_kind kind
 
 -- the whole body, by its first byte
 unfoldable pub judge_base : List ℕ → Read Base

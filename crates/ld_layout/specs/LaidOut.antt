@@ -3,6 +3,7 @@ use Rattle.std.specs.Prelude.{ℕ, ◌+◌, ◌^◌, Option, Some, None, Bool, f
 use Rattle.ld_msg.specs.Register.{record_length, journal_limit}
 use Rattle.ld_op.specs.Plain.{Plain}
 use Rattle.ld_layout.specs.declared.base.Based.{Based}
+use Rattle.ld_layout.specs.declared.segment.Growth.{Growth}
 use Rattle.ld_layout.specs.declared.segment.Segment.{Segment as Stretch}
 use Rattle.ld_layout.specs.declared.segment.Layout.{Layout as Plan}
 use Rattle.ld_layout.specs.Base.{Base}
@@ -44,7 +45,7 @@ passes_first end body (Some g) = false
 abbrev pub more_ops : Bool → ℕ → ℕ
 more_ops is_op ops = if is_op then ops + 1 else ops
 
-abbrev pub recorded_in : Bool → ℕ → ℕ → Option Stretch → ℕ → Bool → Plan
+abbrev pub recorded_in : Growth → ℕ → ℕ → Option Stretch → ℕ → Bool → Plan
 recorded_in grows ops end None body is_op = record { ops = more_ops is_op ops; end = end + record_length body; later = None; grows = grows }
 recorded_in grows ops end (Some g) body is_op = record { ops = ops; end = end; later = Some (record g { ops = more_ops is_op g.ops; end = g.end + record_length body }); grows = grows }
 

@@ -1,5 +1,5 @@
 -- How a journal's segments lie on their disk: which is full, where the next one lies, and which writing calls that takes.
-use Rattle.std.specs.Prelude.{◌≡◌, ◌<◌, ◌≤◌, ℕ, ◌+◌, ◌-◌, ◌*◌, ◌^◌, max, List, [], ◌∷◌, length, filter, Option, Some, None, Bool, true, false, ◌&&◌, ◌||◌, nat_lt, nat_le, if◌then◌else◌}
+use Rattle.std.specs.Prelude.{◌≡◌, ◌<◌, ◌≤◌, ℕ, ◌+◌, ◌-◌, ◌*◌, ◌^◌, max, List, [], ◌∷◌, length, filter, Option, Some, None, Bool, true, false, ◌&&◌, ◌||◌, ◌==◌, nat_lt, nat_le, if◌then◌else◌}
 use Rattle.ld_table.specs.Table.{find, put, Ordered}
 use Rattle.ld_table.specs.Words.{any_of}
 use Rattle.ld_msg.specs.declared.msg.What.{What}
@@ -9,10 +9,12 @@ use Rattle.ld_msg.specs.Register.{record_length, journal_limit}
 use Rattle.ld_op.specs.declared.op.Op.{Op}
 use Rattle.ld_op.specs.Plain.{Plain, Log, unformatted, apply, op_length}
 use Rattle.ld_op.specs.Cells.{placed}
+use Rattle.ld_layout.specs.declared.segment.Growth.{Growth}
+use Rattle.ld_layout.specs.declared.segment.Growth.TheVariants.{Still, Based, Wide}
 use Rattle.ld_layout.specs.Areas.{is_inside, least_place, AreLive, IsHeld}
 
 -- a later segment: its offset, the entries of its Base, the op records after it, its ending gate, the offset behind its area, the older areas in which its entries' payloads stand, by offset with their lengths,
--- how many switches there were, and whether its room grew with its Base
+-- how many switches there were, and how its room grew
 pub record Segment : Type 0 where
   pub place : ℕ
   pub based : ℕ
@@ -21,19 +23,19 @@ pub record Segment : Type 0 where
   pub limit : ℕ
   pub areas : List (ℕ × ℕ)
   pub number : ℕ
-  pub grows : Bool
+  pub grows : Growth
 
 -- how a journal lies on its disk: the op records of the first segment and its ending gate, the current later segment, the index, which is the plain state with the places of each payload's bytes in place of the bytes,
--- and whether the room of the next segment grows with its Base, which no byte tells: it is the choice of whoever writes
+-- and how the room of the next segment grows, which no byte tells: it is the choice of whoever writes
 pub record Layout : Type 0 where
   pub ops : ℕ
   pub end : ℕ
   pub later : Option Segment
   pub index : Plain
-  pub grows : Bool
+  pub grows : Growth
 
 abbrev pub new_layout : Layout
-new_layout = record { ops = 0; end = 0; later = None; index = unformatted; grows = false }
+new_layout = record { ops = 0; end = 0; later = None; index = unformatted; grows = Still }
 
 -- the least number of op records in a full segment, and the least space for records in a later one that doesn't grow
 abbrev pub full_ops : ℕ
@@ -42,6 +44,22 @@ full_ops = 64
 abbrev pub least_room : ℕ
 least_room = 131072
 
+-- both in one that is wide
+abbrev pub wide_ops : ℕ
+wide_ops = 4096
+
+abbrev pub wide_room : ℕ
+wide_room = 4194304
+
+-- how many times its Base the space in one that is wide takes
+abbrev pub wide_bases : ℕ
+wide_bases = 16
+
+abbrev pub full_for : Growth → ℕ
+full_for Still = full_ops
+full_for Based = full_ops
+full_for Wide = wide_ops
+
 -- the offset behind the first segment and the head: its record and two slots
 abbrev pub head_end : ℕ → ℕ
 head_end end = end + 15 + 34
@@ -49,7 +67,7 @@ head_end end = end + 15 + 34
 -- a record takes five bytes beside its body, and the next gate follows it
 abbrev pub is_full_later : ℕ → Option Segment → Bool
 is_full_later body None = false
-is_full_later body (Some g) = nat_le (max full_ops g.based) g.ops || nat_le g.limit (g.end + record_length body)
+is_full_later body (Some g) = nat_le (max (full_for g.grows) g.based) g.ops || nat_le g.limit (g.end + record_length body)
 
 -- a switch comes before a record of so many bytes
 abbrev pub is_full_first : Layout → Option Segment → Bool
@@ -121,7 +139,7 @@ switch_number None = 0
 switch_number (Some g) = g.number
 
 -- a segment with a Base and room for a record of so many bytes
-abbrev pub segment_at : ℕ → ℕ → ℕ → ℕ → List (ℕ × ℕ) → ℕ → Bool → Segment
+abbrev pub segment_at : ℕ → ℕ → ℕ → ℕ → List (ℕ × ℕ) → ℕ → Growth → Segment
 segment_at place base entries room areas number grows = record {
   place = place;
   based = entries;
@@ -133,22 +151,25 @@ segment_at place base entries room areas number grows = record {
   grows = grows;
 }
 
--- the least space for records behind a Base: where it grows, what they take is no less than what the Base does
-abbrev pub least_for : Bool → ℕ → ℕ
-least_for true base = max least_room base
-least_for false base = least_room
+-- the least space for records behind a Base: where it grows, what they take is no less than what the Base does, or than so many Bases
+abbrev pub least_for : Growth → ℕ → ℕ
+least_for Still base = least_room
+least_for Based base = max least_room base
+least_for Wide base = max wide_room (wide_bases * base)
 
 -- room is for the record that causes the switch, by its length, where that is on the disk
 abbrev pub room_for : ℕ → ℕ → ℕ
 room_for least cause = max least cause
 
--- the first byte of a Base of the second version, which tells whether its segment grows
-abbrev pub growing : ℕ
-growing = 14
+-- the first byte of a Base of the second version, which tells how its segment grows
+abbrev pub kind_by : Growth → ℕ
+kind_by Still = 13
+kind_by Based = 14
+kind_by Wide = 15
 
-abbrev pub kind_by : Bool → ℕ
-kind_by true = growing
-kind_by false = 13
+-- how the segment of a Base with this first byte grew
+abbrev pub growth_told : ℕ → Growth
+growth_told kind = if kind == 15 then Wide else if kind == 14 then Based else Still
 
 abbrev pub kind_of : Layout → ℕ
 kind_of y = kind_by y.grows

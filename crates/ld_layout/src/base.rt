@@ -18,7 +18,7 @@ use std::alloc::Global;
 use std::collections::BTreeMap;
 
 /// An index, and the areas in which its payloads stand. The kind is its first byte: 13, or 14 where the room of its segment
-/// grows with it, or 9 in a journal of the first version.
+/// grows with it, 15 where that is also wide, or 9 in a journal of the first version.
 #[derive(Drop)]
 pub struct Based {
     pub kind: u8,
@@ -110,7 +110,7 @@ fn read_base(alloc: Global, bytes: &[u8]) -> Result<Based, FieldFault>
 fn is_kind(kind: u8) -> bool
     ensures { result ≡ is_base_kind kind }
 {
-    kind == 9 || kind == 13 || kind == 14
+    kind == 9 || kind == 13 || kind == 14 || kind == 15
 }
 
 fn read_index(

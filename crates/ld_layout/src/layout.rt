@@ -5,6 +5,7 @@ ghost use Rattle.ld_op.specs.declared.op.Op.{Op as Kind};
 ghost use Rattle.ld_op.specs.Plain.{Plain as State, op_length};
 ghost use Rattle.ld_layout.specs.Layout.{Layout, new_layout, new_segment, switches, switched_to, with_record, base_length, IsLaid, AreHeld};
 ghost use Rattle.ld_layout.specs.Base.{base_bytes};
+ghost use Rattle.ld_layout.specs.declared.segment.Growth.TheVariants.{Still};
 ghost use Rattle.ld_layout.specs.declared.segment.Layout.{Layout as Plan};
 ghost use Rattle.ld_layout.specs.declared.segment.Segment.{Segment as Stretch};
 ghost use Rattle.ld_layout.specs.LaidOut.{laid_out, segment_of, gate_behind, ops_behind, recorded, passes_first, is_past, is_within};
@@ -35,7 +36,7 @@ pub fn records_keep_payloads()
 /// Where nothing passes the limit, a layout stays within it: on a new disk, after a record that fits its segment, and after
 /// a switch. So its numbers are those that its functions ask for.
 pub fn layouts_stay_within()
-    ensures first { is_within (record { ops = 0; end = 0; later = None; grows = false }) ≡ true }
+    ensures first { is_within (record { ops = 0; end = 0; later = None; grows = Still }) ≡ true }
     ensures record { (y : Plan) (index : State) (body : ℕ) (is_op : Bool) → is_within y ≡ true → switches (laid_out y index) body ≡ false → passes_first y.end body y.later ≡ false → is_within (recorded y body is_op) ≡ true }
     ensures switch { (y : Plan) (g : Stretch) (index : State) (cause : ℕ) → is_within y ≡ true → segment_of g ≡ new_segment (laid_out y index) cause cause → is_past index (segment_of g) ≡ false → is_within (record y { later = Some g }) ≡ true }
     ensures numbers { (y : Plan) → is_within y ≡ true → (y.end ≤ journal_limit) × ((gate_behind y.end y.later ≤ journal_limit) × (ops_behind y.ops y.later ≤ journal_limit)) }

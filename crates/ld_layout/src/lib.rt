@@ -15,5 +15,6 @@ pub use layout::{
 };
 pub use listed::{Areas, used};
 pub use segment::{
-    FULL_OPS, LEAST_ROOM, LIMIT, Layout, Segment, base_kind, base_length, least_room,
+    FULL_OPS, Growth, LEAST_ROOM, LIMIT, Layout, Segment, WIDE_BASES, WIDE_OPS, WIDE_ROOM,
+    base_kind, base_length, full_ops, growth_told, least_room,
 };

@@ -5,7 +5,7 @@ ghost use Rattle.ld_msg.specs.Register.{record_length, journal_limit};
 ghost use Rattle.ld_op.specs.declared.op.Op.{Op as Kind};
 ghost use Rattle.ld_op.specs.Plain.{Plain as State, apply, op_length};
 ghost use Rattle.ld_op.specs.Cells.{placed};
-ghost use Rattle.ld_layout.specs.Layout.{switches, is_full_later, closed_areas, live_areas, used, least_for, room_for, kind_by, switch_number, segment_at, new_segment, switched_to, base_length, passes_limit, with_record};
+ghost use Rattle.ld_layout.specs.Layout.{switches, is_full_later, closed_areas, live_areas, used, least_for, full_for, room_for, kind_by, growth_told, switch_number, segment_at, new_segment, switched_to, base_length, passes_limit, with_record};
 ghost use Rattle.ld_layout.specs.Areas.{least_place};
 ghost use Rattle.ld_layout.specs.LaidOut.{segment_of, later_of, laid_out, gate_behind, ops_behind, is_past, passes_first, recorded};
 
@@ -23,12 +23,29 @@ pub const FULL_OPS: u64 = 64;
 /// began the segment has room even where it is longer.
 pub const LEAST_ROOM: u64 = 131_072;
 
+/// The least number of op records in a full segment that is wide.
+pub const WIDE_OPS: u64 = 4_096;
+
+/// The least space for records in a later segment that is wide, in bytes.
+pub const WIDE_ROOM: u64 = 4_194_304;
+
+/// How many times the length of its Base the space for records in a wide segment is at least.
+pub const WIDE_BASES: u64 = 16;
+
 /// The limit of a journal: no record and no area passes this offset of its disk, in bytes.
 pub const LIMIT: u64 = 1 << 40;
 
+/// How much room for records a later segment has behind its Base: the least room, no less than the Base takes, or no less
+/// than 16 Bases take and the room of a wide one.
+#[derive(Clone, Copy, Debug, PartialEq, Eq)]
+pub enum Growth {
+    Still,
+    Based,
+    Wide,
+}
+
 /// A later segment: its offset, the entries of its Base, the op records behind it, its ending gate, the offset behind its
-/// area, the older areas in which payloads of its entries stand, how many switches there were, and whether its room grew
-/// with its Base.
+/// area, the older areas in which payloads of its entries stand, how many switches there were, and how its room grew.
 #[derive(Drop)]
 pub struct Segment {
     pub place: u64,
@@ -38,7 +55,7 @@ pub struct Segment {
     pub limit: u64,
     pub areas: Areas,
     pub number: u64,
-    pub grows: bool,
+    pub grows: Growth,
 }
 
 impl Segment {
@@ -46,7 +63,7 @@ impl Segment {
     fn is_full(&self, body: u64) -> bool
         ensures { result ≡ is_full_later body (Some (segment_of self.now)) }
     {
-        FULL_OPS.max(self.based) <= self.ops || self.ends_by(body)
+        full_ops(self.grows).max(self.based) <= self.ops || self.ends_by(body)
     }
 
     /// Whether the area ends before the gate behind a record of so many bytes.
@@ -57,14 +74,14 @@ impl Segment {
     }
 }
 
-/// The op records of the first segment and its ending gate, the current later segment, and whether the room of the next one
-/// grows with its Base.
+/// The op records of the first segment and its ending gate, the current later segment, and how the room of the next one
+/// grows.
 #[derive(Drop)]
 pub struct Layout {
     pub ops: u64,
     pub end: u64,
     pub later: Option<Segment>,
-    pub grows: bool,
+    pub grows: Growth,
 }
 
 impl Layout {
@@ -152,26 +169,49 @@ pub fn base_length(index: &Plain, areas: &Areas) -> u64
         .saturating_add(5)
 }
 
+/// The least number of op records in a full later segment.
+pub fn full_ops(grows: Growth) -> u64
+    ensures { result ≡ full_for grows }
+{
+    match grows {
+        Growth::Still | Growth::Based => FULL_OPS,
+        Growth::Wide => WIDE_OPS,
+    }
+}
+
 /// The least space for records behind a Base of so many bytes.
-pub fn least_room(grows: bool, base: u64) -> u64
-    requires { base < 2 ^ 41 }
+pub fn least_room(grows: Growth, base: u64) -> u64
+    requires { base < 2 ^ 32 }
     ensures value { result ≡ least_for grows base }
     ensures fits { result < 2 ^ 42 }
 {
-    if grows {
-        return base.max(LEAST_ROOM);
+    match grows {
+        Growth::Still => LEAST_ROOM,
+        Growth::Based => base.max(LEAST_ROOM),
+        Growth::Wide => (WIDE_BASES * base).max(WIDE_ROOM),
     }
-    LEAST_ROOM
 }
 
 /// The first byte of a Base of the second version.
-pub fn base_kind(grows: bool) -> u8
+pub fn base_kind(grows: Growth) -> u8
     ensures { result ≡ kind_by grows }
 {
-    if grows {
-        return 14;
+    match grows {
+        Growth::Still => 13,
+        Growth::Based => 14,
+        Growth::Wide => 15,
     }
-    13
+}
+
+/// How the room of a segment grew whose Base has this first byte.
+pub fn growth_told(kind: u8) -> Growth
+    ensures { result ≡ growth_told kind }
+{
+    match kind {
+        14 => Growth::Based,
+        15 => Growth::Wide,
+        _ => Growth::Still,
+    }
 }
 
 /// The least offset for a segment with a Base and room for a record of so many bytes each, and the offset behind its area,
@@ -207,7 +247,7 @@ impl Segment {
         based: u64,
         areas: Areas,
         number: u64,
-        grows: bool,
+        grows: Growth,
         first: u64,
     ) -> Option<Segment>
         requires base { base < 2 ^ 32 }

@@ -29,6 +29,8 @@ use Rattle.ld_segment.proofs.Bodies.{record_long}
 use Rattle.ld_segment.proofs.Listed.{passed, index_applied, new_index}
 use Rattle.ld_segment.proofs.OneRead.{older_placed, one_read}
 use Rattle.ld_segment.proofs.Standing.{one_is}
+use Rattle.ld_layout.specs.declared.segment.Growth.{Growth}
+use Rattle.ld_layout.specs.declared.segment.Growth.TheVariants.{Still}
 
 -- ---- what is read ----
 
@@ -46,13 +48,13 @@ all_read gate i p (v ∷ vs) bytes rest are stands same =
 
 -- ---- the layout ----
 
-abbrev first_layout : ℕ → ℕ → Plain → Bool → Layout
+abbrev first_layout : ℕ → ℕ → Plain → Growth → Layout
 first_layout ops end index grows = record { ops = ops; end = end; later = None; index = index; grows = grows }
 
 none_other : (k v i a : ℕ) → find i ((k, v) ∷ []) ≡ Some a → i ≡ k
 none_other k v i a found = (one_is k v i a found).0
 
-pub first_laid : (ops end : ℕ) (index : Plain) (grows : Bool) → IsLaid (first_layout ops end index grows)
+pub first_laid : (ops end : ℕ) (index : Plain) (grows : Growth) → IsLaid (first_layout ops end index grows)
 unfolding put IsStrictlySortedBy
 first_laid ops end index grows = record {
   live = record {
@@ -120,7 +122,7 @@ older_held end p (ops.Refilled k) is held l n g e q at_l at_n what = absurd is
 
 now_held : (end : ℕ) (p : Plain) (o : Op) → Held end p → Held (end + record_length (body_length (Now o))) (apply p (placed (end + 5) o))
 unfolding with_record
-now_held end p o held = record_held (first_layout 0 end p false) o (first_laid 0 end p false) held
+now_held end p o held = record_held (first_layout 0 end p Still) o (first_laid 0 end p Still) held
 
 more_held : (end more : ℕ) (p : Plain) → end ≤ more → Held end p → Held more p
 more_held end more p less held l n g e q at_l at_n what = inside_more end more q less (held l n g e q at_l at_n what)
@@ -148,7 +150,7 @@ none_held l n g e q at_l at_n what = absurd (let none : None ≡ Some g = sym (f
 
 module _ (vs : List Record) (bytes : List ℕ) (is : IsJournalOf vs bytes) where
   abbrev y : Layout
-  y = first_layout (op_count vs) (place_behind vs) (indexed 0 unformatted vs) false
+  y = first_layout (op_count vs) (place_behind vs) (indexed 0 unformatted vs) Still
 
   -- no slot is there, so it names none
   abbrev z : Slots
@@ -156,7 +158,7 @@ module _ (vs : List Record) (bytes : List ℕ) (is : IsJournalOf vs bytes) where
 
   sound : IsSound y
   sound = record {
-    laid = first_laid (op_count vs) (place_behind vs) (indexed 0 unformatted vs) false;
+    laid = first_laid (op_count vs) (place_behind vs) (indexed 0 unformatted vs) Still;
     held = (let none : 0 + place_behind vs ≡ place_behind vs = omega arith in subst (λ k. Held k (indexed 0 unformatted vs)) none (all_held 0 unformatted vs is.placed.are none_held));
     index = all_index 0 unformatted vs is.placed.are new_index;
     bounded = tt;

@@ -5,7 +5,7 @@ use Rattle.ld_disk.specs.Images.{Torn}
 use Rattle.ld_journal.specs.Format.{records, IsJournal, behind}
 use Rattle.ld_op.specs.declared.record.Record.{Record}
 use Rattle.ld_op.specs.declared.version.Version.{Version}
-use Rattle.ld_layout.specs.Layout.{Layout, Segment, growing}
+use Rattle.ld_layout.specs.Layout.{Layout, Segment, growth_told}
 use Rattle.ld_segment.specs.Stays.{StaysOutside, StandsAt}
 use Rattle.ld_segment.specs.Left.{FirstSwitch, staged, laid_out}
 use Rattle.ld_segment.specs.Slots.{head_bytes, says_bytes, slot_length, IsShut}
@@ -132,7 +132,7 @@ module _ (kind : ℕ) (y : Layout) (n : Segment) (rs : List Record) (b : List �
   second_shut : IsShut (y.end + 15 + slot_length) done
   second_shut = record { gate = 0; there = stands_front (y.end + 15 + slot_length) (0 ∷ []) second done two_stands; shut = omega arith }
 
-  pub done_later : (opening from : Version) (z : Slots) → n.place ≡ y.end + 49 → n.number ≡ 1 → after_base kind opening ≡ Some from → (kind ≡ 9 → HasNoLoss y.index) → (kind == growing) ≡ y.grows → IsBase y.index n.areas → IsNew y n → ((k v : ℕ) → find k n.areas ≡ Some v → k + v ≤ y.end + 1)
+  pub done_later : (opening from : Version) (z : Slots) → n.place ≡ y.end + 49 → n.number ≡ 1 → after_base kind opening ≡ Some from → (kind ≡ 9 → HasNoLoss y.index) → growth_told kind ≡ y.grows → IsBase y.index n.areas → IsNew y n → ((k v : ℕ) → find k n.areas ≡ Some v → k + v ≤ y.end + 1)
       → IsLater opening from (y.end + 15) (slots_after y z None) n y.index done
   done_later opening from z place number kind_is older room_is is_base new within = record {
     at = inl (refl, refl);

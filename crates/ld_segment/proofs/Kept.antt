@@ -14,7 +14,8 @@ use Rattle.ld_op.specs.Records.{applied, is_blank, is_first, version_after}
 use Rattle.ld_op.specs.Bounds.{IsRecord}
 use Rattle.ld_op.specs.Bytes.{record_bytes}
 use Rattle.ld_op.specs.Cells.{read_plain}
-use Rattle.ld_layout.specs.Layout.{Layout, Segment, growing}
+use Rattle.ld_layout.specs.Base.{is_second_kind}
+use Rattle.ld_layout.specs.Layout.{Layout, Segment, growth_told}
 use Rattle.ld_segment.specs.Stays.{StaysOutside}
 use Rattle.ld_segment.specs.Left.{staged, IsRecordTorn}
 use Rattle.ld_segment.specs.Ops.{placed_record}
@@ -39,7 +40,7 @@ Left p y z c = LeftAs (written y) p y z c
 -- ---- versions ----
 
 pub some_base : (kind : ℕ) (opening from : Version) → after_base kind opening ≡ Some from → is_blank from ≡ false
-some_base kind opening from is = by ((kind == 13) || (kind == growing)) (kind == 9) opening is
+some_base kind opening from is = by (is_second_kind kind) (kind == 9) opening is
   where
     by : (a b : Bool) (w : Version) → cond (is_blank w) None (cond a (Some Second) (cond (b && is_first w) (Some First) None)) ≡ Some from → is_blank from ≡ false
     by a b Blank e = absurd (cc e)

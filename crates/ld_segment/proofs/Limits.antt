@@ -5,25 +5,28 @@ use Rattle.ld_msg.specs.Register.{record_length}
 use Rattle.ld_op.specs.declared.record.Record.{Record}
 use Rattle.ld_op.specs.Records.{body_length}
 use Rattle.ld_op.specs.Bytes.{record_bytes}
-use Rattle.ld_layout.specs.Layout.{Layout, Segment, base_length, least_room, least_for, room_for, full_ops, is_full_later, new_segment, switched_to}
+use Rattle.ld_layout.specs.Layout.{Layout, Segment, base_length, least_room, least_for, room_for, full_for, is_full_later, new_segment, switched_to}
 use Rattle.ld_segment.specs.Ops.{place_behind}
 use Rattle.ld_segment.specs.Lies.{first_length, gate_in}
 use Rattle.ld_segment.proofs.Bodies.{record_long}
 use Rattle.ld_segment.proofs.Standing.{FitsIn}
 use Rattle.ld_segment.proofs.More.{HasLimit}
+use Rattle.ld_layout.specs.declared.segment.Growth.{Growth}
+use Rattle.ld_layout.specs.declared.segment.Growth.TheVariants.{Still, Based, Wide}
 
 abbrev pub limit_of : Option Segment → ℕ
 limit_of None = 0
 limit_of (Some g) = g.limit
 
 -- an area has some room in any case
-pub some_room : (grows : Bool) (base : ℕ) → least_room ≤ least_for grows base
-some_room true base = omega arith
-some_room false base = omega arith
+pub some_room : (grows : Growth) (base : ℕ) → least_room ≤ least_for grows base
+some_room Still base = omega arith
+some_room Based base = omega arith
+some_room Wide base = omega arith
 
 -- a record that fits leaves the limit as it is
 pub not_past : (g : Segment) (v : Record) → is_full_later (body_length v) (Some g) ≡ false → g.end + record_length (body_length v) < g.limit
-not_past g v goes = leb-false g.limit (g.end + record_length (body_length v)) (or_parts (nat_le (max full_ops g.based) g.ops) (nat_le g.limit (g.end + record_length (body_length v))) goes).1
+not_past g v goes = leb-false g.limit (g.end + record_length (body_length v)) (or_parts (nat_le (max (full_for g.grows) g.based) g.ops) (nat_le g.limit (g.end + record_length (body_length v))) goes).1
 
 stays_by : (end limit x least : ℕ) (rs : List Record) (v : Record) → end + record_length (body_length v) < limit → end + 1 ≡ x + place_behind rs → limit ≡ x + room_for least (first_length rs) → limit ≡ x + room_for least (first_length (rs ++ v ∷ []))
 stays_by end limit x least [] v room end_is limit_is = omega (arith, room, end_is, limit_is)
@@ -38,14 +41,15 @@ fits_area y None v goes = tt
 fits_area y (Some g) v goes = omega (arith, not_past g v goes, record_long v)
 
 -- behind a new Base it decides the limit
-new_by : (grows : Bool) (place size base end limit : ℕ) (rs : List Record) (v : Record) → end ≡ place + 5 + size → limit ≡ end + 1 + room_for (least_for grows size) 0 → end + 1 ≡ place + record_length base + 1 + place_behind rs
+new_by : (grows : Growth) (place size base end limit : ℕ) (rs : List Record) (v : Record) → end ≡ place + 5 + size → limit ≡ end + 1 + room_for (least_for grows size) 0 → end + 1 ≡ place + record_length base + 1 + place_behind rs
     → limit ≡ place + record_length base + 1 + room_for (least_for grows base) (first_length rs)
     → end + 1 + room_for (least_for grows size) (record_length (body_length v)) ≡ place + record_length base + 1 + room_for (least_for grows base) (first_length (rs ++ v ∷ []))
 new_by grows place size base end limit [] v at room end_is limit_is =
     let same : size ≡ base = omega (arith, at, end_is) in
     (λ i. end + 1 + room_for (least_for grows (same i)) (record_length (body_length v))) ∙ ap (λ n. n + room_for (least_for grows base) (record_length (body_length v))) (let all : end + 1 ≡ place + record_length base + 1 = omega (arith, end_is) in all)
-new_by true place size base end limit (u ∷ us) v at room end_is limit_is = absurd (omega (arith, at, room, end_is, limit_is))
-new_by false place size base end limit (u ∷ us) v at room end_is limit_is = absurd (omega (arith, at, room, end_is, limit_is))
+new_by Still place size base end limit (u ∷ us) v at room end_is limit_is = absurd (omega (arith, at, room, end_is, limit_is))
+new_by Based place size base end limit (u ∷ us) v at room end_is limit_is = absurd (omega (arith, at, room, end_is, limit_is))
+new_by Wide place size base end limit (u ∷ us) v at room end_is limit_is = absurd (omega (arith, at, room, end_is, limit_is))
 
 pub limit_new : (y : Layout) (v : Record) → HasLimit (switched_to y (record_length (body_length v)) 0).later (new_segment y (record_length (body_length v)) (record_length (body_length v))).limit v
 unfolding switched_to

@@ -24,6 +24,7 @@ use Rattle.ld_segment.specs.Plans.{planned, planned_end}
 use Rattle.ld_segment.proofs.Planning.{plan_fits}
 use Rattle.ld_segment.proofs.Kept as kept
 use Rattle.ld_segment.proofs.Switched as switched
+use Rattle.ld_layout.specs.declared.segment.Growth.TheVariants.{Still}
 
 -- ---- a layout with a mark ----
 
@@ -93,7 +94,7 @@ sound_by y false goes sound fits = sound_mark y sound goes
 pub sound_marked : (y : Layout) → IsSound y → mark_passes y ≡ false → IsSound (marked_in y)
 sound_marked y sound fits = sound_by y (switches y 2) refl sound fits
 
-module _ (y : Layout) (z : Slots) (b : List ℕ) (lies : LiesAs First y z b) (sound : IsSound y) (fits : mark_passes y ≡ false) (still : y.grows ≡ false) where
+module _ (y : Layout) (z : Slots) (b : List ℕ) (lies : LiesAs First y z b) (sound : IsSound y) (fits : mark_passes y ≡ false) (still : y.grows ≡ Still) where
   abbrev body : List ℕ
   body = record_bytes Mark
 

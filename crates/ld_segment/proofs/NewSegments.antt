@@ -5,7 +5,7 @@ use Rattle.std.proofs.lemmas.List.Elements.{All-nil, All-cons}
 use Rattle.ld_journal.specs.Format.{framed}
 use Rattle.ld_op.specs.declared.version.Version.{Version}
 use Rattle.ld_layout.specs.Base.{base_bytes}
-use Rattle.ld_layout.specs.Layout.{Layout, Segment, least_for, growing, base_length, entry_count, room_for, new_segment}
+use Rattle.ld_layout.specs.Layout.{Layout, Segment, least_for, growth_told, base_length, entry_count, room_for, new_segment}
 use Rattle.ld_layout.proofs.Lengths.{base_long}
 use Rattle.ld_segment.specs.Stays.{StandsAt}
 use Rattle.ld_segment.specs.Bases.{IsBase, HasNoLoss}
@@ -43,7 +43,7 @@ new_is y cause = record { based = refl; ops = refl; end = omega arith; grows = r
 pub base_record_long : (kind : ℕ) (y : Layout) (g : Segment) → length (base_record kind y g) ≡ 6 + base_length y.index g.areas
 base_record_long kind y g = omega (arith, length-append (framed (base_bytes kind y.index g.areas)) (0 ∷ []), base_long kind y.index g.areas)
 
-pub new_current : (kind : ℕ) (opening from : Version) (y : Layout) (g : Segment) (c : List ℕ) → after_base kind opening ≡ Some from → (kind ≡ 9 → HasNoLoss y.index) → (kind == growing) ≡ y.grows → IsBase y.index g.areas → IsNew y g → StandsAt g.place (base_record kind y g) c
+pub new_current : (kind : ℕ) (opening from : Version) (y : Layout) (g : Segment) (c : List ℕ) → after_base kind opening ≡ Some from → (kind ≡ 9 → HasNoLoss y.index) → growth_told kind ≡ y.grows → IsBase y.index g.areas → IsNew y g → StandsAt g.place (base_record kind y g) c
     → IsCurrent opening from g y.index c
 new_current kind opening from y g c kind_is older room_is is_base new stands =
     let base : List ℕ = base_bytes kind y.index g.areas in

@@ -20,7 +20,8 @@ use Rattle.ld_op.specs.Cells.{placed, placed_entry, placed_entries}
 use Rattle.ld_segment.specs.Bases.{HasNoLoss}
 use Rattle.ld_segment.specs.Ops.{indexed, version_on, AreRecords, ArePlaced}
 use Rattle.ld_segment.specs.Lies.{Slots, after_base, behind_base, IsIndexed}
-use Rattle.ld_layout.specs.Layout.{Layout, Segment, growing}
+use Rattle.ld_layout.specs.Base.{is_second_kind}
+use Rattle.ld_layout.specs.Layout.{Layout, Segment, growth_told}
 use Rattle.ld_segment.proofs.Bodies.{none_on}
 use Rattle.ld_segment.proofs.OneRead.{older_placed}
 use Rattle.ld_segment.proofs.Kept.{some_base}
@@ -143,7 +144,7 @@ pub is_nine : (n : ℕ) → (n == 9) ≡ true → n ≡ 9
 is_nine n is = grind (arith, nat_tests)
 
 first_base : (kind : ℕ) (opening : Version) → after_base kind opening ≡ Some First → (kind ≡ 9) × (opening ≡ First)
-first_base kind opening is = by ((kind == 13) || (kind == growing)) (kind == 9) refl opening is
+first_base kind opening is = by (is_second_kind kind) (kind == 9) refl opening is
   where
     by : (a b : Bool) → (kind == 9) ≡ b → (w : Version) → cond (is_blank w) None (cond a (Some Second) (cond (b && is_first w) (Some First) None)) ≡ Some First → (kind ≡ 9) × (w ≡ First)
     by a b nine Blank e = absurd (no_version First e)

@@ -7,7 +7,7 @@ use Rattle.ld_op.specs.declared.record.Record.{Record}
 use Rattle.ld_op.specs.declared.version.Version.{Version}
 use Rattle.ld_op.specs.Plain.{Plain, unformatted}
 use Rattle.ld_layout.specs.Base.{Base, base_bytes}
-use Rattle.ld_layout.specs.Layout.{Layout, Segment, base_length, entry_count, least_for, room_for, growing, IfSegment}
+use Rattle.ld_layout.specs.Layout.{Layout, Segment, base_length, entry_count, least_for, room_for, growth_told, IfSegment}
 use Rattle.ld_segment.specs.Ops.{bodies_of, place_behind, op_count, indexed, version_on, ArePlaced}
 use Rattle.ld_segment.specs.Lies.{Slots, first_length, behind_base, IfBounded, IsLater, IsIndexed, LiesAs, IsSound}
 use Rattle.ld_segment.specs.Later.{IsBaseAt}
@@ -60,7 +60,7 @@ module _ (opening version other : Version) (head : ℕ) (z x : Slots) (g h : Seg
   behind = λ i. place i + record_length (base_length (base i).index (base i).areas)
 
   grows : g.grows ≡ h.grows
-  grows = here.current.grows_is ∙ ap (λ c. c.kind == growing) base ∙ sym there.current.grows_is
+  grows = here.current.grows_is ∙ ap (λ c. growth_told c.kind) base ∙ sym there.current.grows_is
 
   segment : g ≡ h
   segment = λ i. record {

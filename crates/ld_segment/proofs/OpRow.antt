@@ -12,7 +12,8 @@ use Rattle.ld_op.specs.Records as stages
 use Rattle.ld_op.specs.Records.{version_after, is_blank}
 use Rattle.ld_op.specs.Bytes.{op_bytes}
 use Rattle.ld_op.specs.Cells.{read_plain, placed}
-use Rattle.ld_layout.specs.Layout.{Layout, Segment, growing, kind_by, kind_of, gate_of, is_first, is_full_first, is_full_later, full_ops, new_segment, switched_to, switches, later_with, with_record, kept_in}
+use Rattle.ld_layout.specs.Base.{is_second_kind}
+use Rattle.ld_layout.specs.Layout.{Layout, Segment, growth_told, kind_by, kind_of, gate_of, is_first, is_full_first, is_full_later, full_ops, new_segment, switched_to, switches, later_with, with_record, kept_in}
 use Rattle.ld_disk.specs.Images.{Torn}
 use Rattle.ld_journal.specs.Format.{behind}
 use Rattle.ld_segment.specs.Left.{staged, IsRecordTorn}
@@ -27,6 +28,8 @@ use Rattle.ld_segment.proofs.Kept.{LeftAs, Left, some_ops, written_more}
 use Rattle.ld_segment.proofs.Limits.{limit_of, limit_stays, fits_area, limit_new}
 use Rattle.ld_segment.proofs.Kept as kept
 use Rattle.ld_segment.proofs.Switched as switched
+use Rattle.ld_layout.specs.declared.segment.Growth.{Growth}
+use Rattle.ld_layout.specs.declared.segment.Growth.TheVariants.{Still, Based, Wide}
 
 some_full : (ops : ℕ) → (nat_le full_ops ops || false) ≡ true → (ops == 0) ≡ false
 some_full ops is = by (nat_le full_ops ops) refl is
@@ -65,17 +68,20 @@ switched_with y o cause = refl
 
 -- ---- the first byte of a Base ----
 
-kind_second : (grows : Bool) → ((kind_by grows == 13) || (kind_by grows == growing)) ≡ true
-kind_second true = refl
-kind_second false = refl
+kind_second : (grows : Growth) → is_second_kind (kind_by grows) ≡ true
+kind_second Still = refl
+kind_second Based = refl
+kind_second Wide = refl
 
-never_nine : (grows : Bool) → kind_by grows ≡ 9 → ⊥
-never_nine true nine = omega (arith, nine)
-never_nine false nine = omega (arith, nine)
+never_nine : (grows : Growth) → kind_by grows ≡ 9 → ⊥
+never_nine Still nine = omega (arith, nine)
+never_nine Based nine = omega (arith, nine)
+never_nine Wide nine = omega (arith, nine)
 
-kind_grows : (grows : Bool) → (kind_by grows == growing) ≡ grows
-kind_grows true = refl
-kind_grows false = refl
+kind_grows : (grows : Growth) → growth_told (kind_by grows) ≡ grows
+kind_grows Still = refl
+kind_grows Based = refl
+kind_grows Wide = refl
 
 module _ (y : Layout) (z : Slots) (b : List ℕ) (o : Op) (lies : LiesAs (written y) y z b) (sound : IsSound y) (may : MayKeep y o) where
   abbrev n : ℕ
@@ -160,13 +166,13 @@ module _ (y : Layout) (z : Slots) (b : List ℕ) (o : Op) (lies : LiesAs (writte
     kind_is =
         let some = second_by y.later refl in
         let opened : is_blank lies.first ≡ false = blank_is lies.records lies.first lies.placed.version_is ∙ some_there lies.records (sym (ap (λ n. n == 0) lies.ops_is) ∙ some) in
-        ap (λ t. cond t None (cond ((kind_of y == 13) || (kind_of y == growing)) (Some Second) (cond ((kind_of y == 9) && stages.is_first lies.first) (Some First) None))) opened
+        ap (λ t. cond t None (cond (is_second_kind (kind_of y)) (Some Second) (cond ((kind_of y == 9) && stages.is_first lies.first) (Some First) None))) opened
         ∙ ap (λ t. cond t (Some Second) (cond ((kind_of y == 9) && stages.is_first lies.first) (Some First) None)) (kind_second y.grows) ∙ ap (λ t. Some (cond t Blank Second)) (sym some)
 
     pub not_nine : kind_of y ≡ 9 → HasNoLoss y.index
     not_nine nine = absurd (never_nine y.grows nine)
 
-    pub room_is : (kind_of y == growing) ≡ y.grows
+    pub room_is : growth_told (kind_of y) ≡ y.grows
     room_is = kind_grows y.grows
 
     pub first_done : y.later ≡ None → Left p new (slots_after y z None) (switched_bytes (kind_of y) y z (segment_for y n) None b)

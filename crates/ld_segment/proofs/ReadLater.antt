@@ -15,7 +15,7 @@ use Rattle.ld_op.specs.Records.{is_blank, is_first}
 use Rattle.ld_op.specs.Indexed.{IsBasedTable}
 use Rattle.ld_layout.specs.Base.{Base, base_bytes, is_base_kind, judge_base, IsBasedArea}
 use Rattle.ld_layout.specs.LaidOut.{base_of}
-use Rattle.ld_layout.specs.Layout.{Segment, growing}
+use Rattle.ld_layout.specs.Layout.{Segment, growth_told}
 use Rattle.ld_layout.proofs.Lengths.{base_long}
 use Rattle.ld_layout.proofs.Bases.{base_judged}
 use Rattle.ld_segment.specs.Stays.{StandsAt}
@@ -53,17 +53,19 @@ first_there at body bodies bytes journal =
 -- ---- a Base ----
 
 kind_fits : (kind : ℕ) (opening from : Version) → after_base kind opening ≡ Some from → (kind < 256) × (is_base_kind kind ≡ true)
-kind_fits kind opening from is = by (kind == 13) (kind == growing) (kind == 9) refl refl refl opening is
+kind_fits kind opening from is = by (kind == 13) (kind == 14) (kind == 15) (kind == 9) refl refl refl refl opening is
   where
-    by : (a c b : Bool) → (kind == 13) ≡ a → (kind == growing) ≡ c → (kind == 9) ≡ b → (w : Version) → cond (is_blank w) None (cond (a || c) (Some Second) (cond (b && is_first w) (Some First) None)) ≡ Some from → (kind < 256) × ((b || (a || c)) ≡ true)
-    by true c true thirteen fourteen nine w e = (grind (arith, nat_tests), refl)
-    by true c false thirteen fourteen nine w e = (grind (arith, nat_tests), refl)
-    by false true true thirteen fourteen nine w e = (grind (arith, nat_tests), refl)
-    by false true false thirteen fourteen nine w e = (grind (arith, nat_tests), refl)
-    by false false true thirteen fourteen nine w e = (grind (arith, nat_tests), refl)
-    by false false false thirteen fourteen nine Blank e = absurd (cc e)
-    by false false false thirteen fourteen nine First e = absurd (cc e)
-    by false false false thirteen fourteen nine Second e = absurd (cc e)
+    by : (a c d b : Bool) → (kind == 13) ≡ a → (kind == 14) ≡ c → (kind == 15) ≡ d → (kind == 9) ≡ b → (w : Version) → cond (is_blank w) None (cond (a || (c || d)) (Some Second) (cond (b && is_first w) (Some First) None)) ≡ Some from → (kind < 256) × ((b || (a || (c || d))) ≡ true)
+    by true c d true thirteen fourteen fifteen nine w e = (grind (arith, nat_tests), refl)
+    by true c d false thirteen fourteen fifteen nine w e = (grind (arith, nat_tests), refl)
+    by false true d true thirteen fourteen fifteen nine w e = (grind (arith, nat_tests), refl)
+    by false true d false thirteen fourteen fifteen nine w e = (grind (arith, nat_tests), refl)
+    by false false true true thirteen fourteen fifteen nine w e = (grind (arith, nat_tests), refl)
+    by false false true false thirteen fourteen fifteen nine w e = (grind (arith, nat_tests), refl)
+    by false false false true thirteen fourteen fifteen nine w e = (grind (arith, nat_tests), refl)
+    by false false false false thirteen fourteen fifteen nine Blank e = absurd (cc e)
+    by false false false false thirteen fourteen fifteen nine First e = absurd (cc e)
+    by false false false false thirteen fourteen fifteen nine Second e = absurd (cc e)
 
 areas_are : (p : Plain) (areas : List (ℕ × ℕ)) → IsBase p areas → IsBasedTable IsBasedArea areas
 areas_are p areas is = record {

@@ -7,11 +7,13 @@ use Rattle.ld_table.specs.Words.{is_in, numbers_from}
 use Rattle.ld_table.proofs.Laws.{put_cases, find-keep}
 use Rattle.ld_msg.specs.Register.{record_length, journal_limit}
 use Rattle.ld_op.specs.declared.op.Op.{Op}
+use Rattle.ld_layout.specs.declared.segment.Growth.{Growth}
+use Rattle.ld_layout.specs.declared.segment.Growth.TheVariants.{Still, Based, Wide}
 use Rattle.ld_op.specs.Plain.{Plain, op_length}
 use Rattle.ld_op.specs.Bounds.{IsOp}
 use Rattle.ld_op.specs.Indexed.{first_place}
 use Rattle.ld_layout.specs.Areas.{IsHeld}
-use Rattle.ld_layout.specs.Layout.{Layout, Segment, head_end, used, base_length, closed_areas, new_segment, switched_to, full_ops, switches, gate_of, with_record, later_with, kept_in, is_first, passes_in, passes_limit, IfSegment, IsLaid}
+use Rattle.ld_layout.specs.Layout.{Layout, Segment, head_end, used, base_length, closed_areas, new_segment, switched_to, full_for, switches, gate_of, with_record, later_with, kept_in, is_first, passes_in, passes_limit, IfSegment, IsLaid}
 use Rattle.ld_layout.proofs.Switches.{holds, used_is, closed_ordered, switch_laid, record_laid}
 use Rattle.ld_layout.proofs.Held.{switch_held}
 use Rattle.ld_layout.proofs.Payloads.{record_held}
@@ -145,11 +147,16 @@ unfolding switched_to
 behind_head y cause room laid less = let made = switch_laid y cause room laid less in head_before (switched_to y cause room) (new_segment y cause room) made.live made.segment
 
 -- then there is room for it
+not_at_once : (grows : Growth) (based : ℕ) → nat_le (max (full_for grows) based) 0 ≡ false
+not_at_once Still based = grind (arith, nat_tests)
+not_at_once Based based = grind (arith, nat_tests)
+not_at_once Wide based = grind (arith, nat_tests)
+
 pub goes_on : (y : Layout) (body : ℕ) → switches (switched_to y (record_length body) (record_length body)) body ≡ false
 unfolding switches switched_to
 goes_on y body =
     let g : Segment = new_segment y (record_length body) (record_length body) in
-    let few : nat_le (max full_ops g.based) 0 ≡ false = grind (arith, nat_tests) in
+    let few : nat_le (max (full_for g.grows) g.based) 0 ≡ false = not_at_once y.grows g.based in
     let room : nat_le g.limit (g.end + record_length body) ≡ false = grind (arith, nat_tests) in
     (λ i. few i || room i)
 

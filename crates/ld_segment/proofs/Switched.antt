@@ -12,7 +12,7 @@ use Rattle.ld_op.specs.declared.version.Version.{Version}
 use Rattle.ld_op.specs.Plain.{Plain}
 use Rattle.ld_op.specs.Cells.{read_plain}
 use Rattle.ld_layout.specs.Areas.{IsApart, AreLive, least_place}
-use Rattle.ld_layout.specs.Layout.{Layout, Segment, head_end, used, base_length, closed_areas, live_areas, least_for, room_for, growing, new_segment, switched_to, switch_number, IsSegment, IfSegment}
+use Rattle.ld_layout.specs.Layout.{Layout, Segment, head_end, used, base_length, closed_areas, live_areas, least_for, room_for, growth_told, new_segment, switched_to, switch_number, IsSegment, IfSegment}
 use Rattle.ld_layout.proofs.Free.{is_free}
 use Rattle.ld_layout.proofs.Live.{free_of_each, rise_of}
 use Rattle.ld_layout.proofs.Switches.{closed_ordered}
@@ -47,7 +47,7 @@ first_place y cause room e =
     let past : nat_le (0 + size) 0 ≡ false = grind (arith, nat_tests) in
     ap (λ a. least_place size 0 (live_areas y a)) e ∙ place_by size y.end (nat_le (0 + size) 0) past
 
-module _ (version : Version) (kind : ℕ) (y : Layout) (z : Slots) (b : List ℕ) (lies : LiesAs version y z b) (sound : IsSound y) (cause : ℕ) (passes : Passes y (new_segment y cause 0)) (kind_is : after_base kind lies.first ≡ Some version) (older : kind ≡ 9 → HasNoLoss y.index) (room_is : (kind == growing) ≡ y.grows) where
+module _ (version : Version) (kind : ℕ) (y : Layout) (z : Slots) (b : List ℕ) (lies : LiesAs version y z b) (sound : IsSound y) (cause : ℕ) (passes : Passes y (new_segment y cause 0)) (kind_is : after_base kind lies.first ≡ Some version) (older : kind ≡ 9 → HasNoLoss y.index) (room_is : growth_told kind ≡ y.grows) where
   -- the segment as it is on the disk without the record
   abbrev n : Segment
   n = new_segment y cause 0

@@ -5,7 +5,7 @@ use Rattle.ld_journal.specs.Format.{records, IsJournal}
 use Rattle.ld_op.specs.declared.record.Record.{Record}
 use Rattle.ld_op.specs.declared.version.Version.{Version}
 use Rattle.ld_layout.specs.Areas.{IsApart, AreLive}
-use Rattle.ld_layout.specs.Layout.{Layout, Segment, base_length, live_areas, growing, IsSegment}
+use Rattle.ld_layout.specs.Layout.{Layout, Segment, base_length, live_areas, growth_told, IsSegment}
 use Rattle.ld_segment.specs.Stays.{IsSameAt, StandsAt}
 use Rattle.ld_segment.specs.Left.{Switching}
 use Rattle.ld_segment.specs.Slots.{says_bytes, slot_length, IsSlot, IsShut, IsLesser, Tells, SlotsApart, IsNextSwitch, IsElsewhere}
@@ -149,7 +149,7 @@ module _ (opening version : Version) (y : Layout) (z : Slots) (g : Segment) (rs 
     old_later tells = ⊎_elim (λ shut. (record z { is_open = false }, old_with false tells shut)) (λ less. (record z { is_open = true }, old_with true tells less)) tells.rest
 
     -- the new one does
-    pub new_later : (from : Version) → Tells z.other z.this n.number n.place c → StandsAt n.place w.base c → after_base kind opening ≡ Some from → (kind ≡ 9 → HasNoLoss y.index) → (kind == growing) ≡ y.grows → IsBase y.index n.areas → IsNew y n
+    pub new_later : (from : Version) → Tells z.other z.this n.number n.place c → StandsAt n.place w.base c → after_base kind opening ≡ Some from → (kind ≡ 9 → HasNoLoss y.index) → growth_told kind ≡ y.grows → IsBase y.index n.areas → IsNew y n
         → ((k v : ℕ) → find k n.areas ≡ Some v → k + v ≤ length b) → IsLater opening from (y.end + 15) (slots_after y z (Some g)) n y.index c
     new_later from tells stands kind_is older room_is is_base new within = record {
       at = ⊎_elim (λ p. inr (p.1, p.0)) (λ p. inl (p.1, p.0)) later.at;

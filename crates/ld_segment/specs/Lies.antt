@@ -17,8 +17,8 @@ use Rattle.ld_op.specs.Bounds.{IsOp}
 use Rattle.ld_op.specs.Bytes.{op_bytes, record_bytes}
 use Rattle.ld_op.specs.Cells.{read_plain}
 use Rattle.ld_table.specs.Table.{find}
-use Rattle.ld_layout.specs.Base.{base_bytes}
-use Rattle.ld_layout.specs.Layout.{Layout, Segment, switches, new_segment, base_length, entry_count, least_for, room_for, growing, kind_of, calls_before, laid_for, kept_in, switched_to, passes_limit, IsLaid, AreHeld}
+use Rattle.ld_layout.specs.Base.{base_bytes, is_second_kind}
+use Rattle.ld_layout.specs.Layout.{Layout, Segment, switches, new_segment, base_length, entry_count, least_for, room_for, growth_told, kind_of, calls_before, laid_for, kept_in, switched_to, passes_limit, IsLaid, AreHeld}
 use Rattle.ld_segment.specs.Left.{Switching, FirstSwitch, safe_calls, switch_calls, staged, laid_out, switched, IsRecordTorn, IsSwitchTorn, IsFirstSwitchTorn}
 use Rattle.ld_segment.specs.Slots.{head_bytes, says_bytes, slot_length, Tells, IsShut, IsLesser}
 use Rattle.ld_segment.specs.Bases.{IsIndex, IsBase, HasNoLoss}
@@ -54,7 +54,7 @@ behind_base g base = g.place + record_length (base_length base g.areas)
 
 -- the version behind a Base, where it may stand in a journal whose first segment is of that version: one of the second may stand in each that isn't blank, and one of the first in no other
 abbrev pub after_base : ℕ → Version → Option Version
-after_base kind opening = if is_blank opening then None else if (kind == 13) || (kind == growing) then Some Second else if (kind == 9) && is_first opening then Some First else None
+after_base kind opening = if is_blank opening then None else if is_second_kind kind then Some Second else if (kind == 9) && is_first opening then Some First else None
 
 -- a segment's Base and the records behind it; its area has room for the record that caused the switch, where that is there, and where its first byte says so for as many bytes as the Base has
 pub record IsCurrent (opening version : Version) (g : Segment) (index : Plain) (bytes : List ℕ) : Type 0 where
@@ -69,7 +69,7 @@ pub record IsCurrent (opening version : Version) (g : Segment) (index : Plain) (
   pub placed : ArePlaced from records version
   pub based_is : g.based ≡ entry_count base.logs
   pub ops_is : g.ops ≡ op_count records
-  pub grows_is : g.grows ≡ (kind == growing)
+  pub grows_is : g.grows ≡ growth_told kind
   pub end_is : g.end ≡ behind_base g base + place_behind records
   pub limit_is : g.limit ≡ behind_base g base + 1 + room_for (least_for g.grows (base_length base g.areas)) (first_length records)
   pub index_is : index ≡ indexed (behind_base g base) base records

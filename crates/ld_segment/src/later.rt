@@ -116,7 +116,7 @@ fn behind_base(kind: u8, opening: Version) -> Option<Version>
     if opening.is_blank() {
         return None;
     }
-    if kind == 13 || kind == 14 {
+    if kind == 13 || kind == 14 || kind == 15 {
         return Some(Version::Second);
     }
     if kind == 9 && opening.is_first() {

@@ -17,6 +17,7 @@ ghost use Rattle.ld_layout.specs.Layout.{Layout, Segment, switches, kept_in, kin
 ghost use Rattle.ld_segment.specs.Ops.{state_after, IsJournalOf};
 ghost use Rattle.ld_segment.specs.Plans.{Stays, First, Later, IsPlanTorn, planned, planned_calls, planned_count, planned_end, planned_made};
 ghost use Rattle.ld_segment.specs.Lies.{Slots, LiesAs, IsSound, StandsFor, StandsForEither, MayKeep, IsRowTorn, written, segment_for, gate_in, first_switch, next_switch, row_of, op_row, row_made, slots_with, marked_in, mark_passes, switching, layout_left, plain_left};
+ghost use Rattle.ld_layout.specs.declared.segment.Growth.TheVariants.{Still};
 
 /// Bytes lie in one way at most, so they represent one plain state at most.
 pub fn bytes_stand_for_one_state()
@@ -80,9 +81,9 @@ pub fn plans_are_rows()
 /// A mark leaves the plain state as it is: whatever a crash leaves of its calls represents it, and once all are made the
 /// journal is one of the second version. They lie within the limit where it doesn't pass that. Its segment doesn't grow.
 pub fn marks_change_no_state()
-    ensures torn { (y : Layout) (z : Slots) (b c : List ℕ) → LiesAs OfFirst y z b → IsSound y → mark_passes y ≡ false → y.grows ≡ false → IsRowTorn 9 y z (record_bytes Mark) b c → StandsFor (read_plain b y.index) c }
-    ensures made { (y : Layout) (z : Slots) (b : List ℕ) → LiesAs OfFirst y z b → IsSound y → mark_passes y ≡ false → y.grows ≡ false
+    ensures torn { (y : Layout) (z : Slots) (b c : List ℕ) → LiesAs OfFirst y z b → IsSound y → mark_passes y ≡ false → y.grows ≡ Still → IsRowTorn 9 y z (record_bytes Mark) b c → StandsFor (read_plain b y.index) c }
+    ensures made { (y : Layout) (z : Slots) (b : List ℕ) → LiesAs OfFirst y z b → IsSound y → mark_passes y ≡ false → y.grows ≡ Still
         → LiesAs OfSecond (marked_in y) (slots_with y z 2) (row_made 9 y z (record_bytes Mark) b) × (read_plain (row_made 9 y z (record_bytes Mark) b) (marked_in y).index ≡ read_plain b y.index) }
     ensures sound { (y : Layout) → IsSound y → mark_passes y ≡ false → IsSound (marked_in y) }
-    ensures fits { (y : Layout) (z : Slots) (b : List ℕ) → LiesAs OfFirst y z b → IsSound y → mark_passes y ≡ false → y.grows ≡ false → planned_end (planned 9 y z (record_bytes Mark)) ≤ journal_limit }
+    ensures fits { (y : Layout) (z : Slots) (b : List ℕ) → LiesAs OfFirst y z b → IsSound y → mark_passes y ≡ false → y.grows ≡ Still → planned_end (planned 9 y z (record_bytes Mark)) ≤ journal_limit }
 {}

@@ -28,6 +28,7 @@ use Rattle.ld_store.proofs.OneLayout.{IsSame, one_layout}
 use Rattle.ld_store.proofs.Turned.{lies_turned, sound_turned}
 use Rattle.ld_store.proofs.MarkRoom.{past_passes}
 use Rattle.ld_store.proofs.Blank.{blank_lies, written_is}
+use Rattle.ld_layout.specs.declared.segment.Growth.TheVariants.{Still}
 
 pub first_is : (w : Version) → is_first w ≡ true → w ≡ First
 first_is Blank is = absurd (cc is)
@@ -56,13 +57,13 @@ module _ (bytes : List ℕ) (l : Laid) (index : Plain) (version : Version) (read
   stands_as p stands =
       let s = one_layout stands.version stands.layout stands.slots bytes l index version stands.lies stands.sound read in
       record {
-        lies = subst (λ w. LiesAs w y z bytes) s.version_is (subst (λ x. LiesAs stands.version x z bytes) s.layout (lies_turned stands.layout false stands.version z bytes s.lies));
-        sound = subst (λ x. IsSound x) s.layout (sound_turned stands.layout false stands.sound);
+        lies = subst (λ w. LiesAs w y z bytes) s.version_is (subst (λ x. LiesAs stands.version x z bytes) s.layout (lies_turned stands.layout Still stands.version z bytes s.lies));
+        sound = subst (λ x. IsSound x) s.layout (sound_turned stands.layout Still stands.sound);
         plain = stands.plain ∙ ap (λ x. read_plain bytes x.index) s.layout;
       }
 
   -- the room of the next segment doesn't grow
-  pub still_read : y.grows ≡ false
+  pub still_read : y.grows ≡ Still
   still_read = ⊎_elim (λ r. ap (λ p. p.grows) r.layout_is) (λ r. ap (λ p. p.grows) r.layout_is) read
 
   -- where there are slots, their gates are as they were read

@@ -15,7 +15,7 @@ use Rattle.ld_op.specs.Plain.{Plain, unformatted}
 use Rattle.ld_op.specs.Indexed as based
 use Rattle.ld_layout.specs.Base.{base_bytes}
 use Rattle.ld_layout.specs.LaidOut.{later_of}
-use Rattle.ld_layout.specs.Layout.{Layout, Segment, least_for, room_for, growing, entry_count, base_length, switches}
+use Rattle.ld_layout.specs.Layout.{Layout, Segment, least_for, room_for, growth_told, entry_count, base_length, switches}
 use Rattle.ld_layout.proofs.Lengths.{base_long}
 use Rattle.ld_layout.proofs.Segments.{count_is}
 use Rattle.ld_segment.specs.Found.{slots_of}
@@ -36,10 +36,11 @@ use Rattle.ld_store.specs.declared.laid.Laid.{Laid}
 use Rattle.ld_store.specs.declared.replay.Walk.{Walk}
 use Rattle.ld_store.proofs.Replaying.{behind}
 use Rattle.ld_store.proofs.Damage.{fits_is, headed}
+use Rattle.ld_layout.specs.declared.segment.Growth.TheVariants.{Still}
 
 -- it is this layout, with the slots as they were read
 pub record IsSame (v : Version) (y : Layout) (z : Slots) (l : Laid) (index : Plain) (version : Version) (bytes : List ℕ) : Type 0 where
-  pub layout : record y { grows = false } ≡ layout_in l index
+  pub layout : record y { grows = Still } ≡ layout_in l index
   pub version_is : v ≡ version
   pub lies : LiesAs v y (slots_in l) bytes
   pub row : IfOpenAs y.later z bytes → mark_row y z ≡ mark_row y (slots_in l)
@@ -98,7 +99,7 @@ first_same v y z bytes l index version lies r =
     let ops : y.ops ≡ l.layout.ops = lies.ops_is ∙ ap op_count same.0 ∙ sym has.ops_is ∙ sym (ap (λ p. p.ops) r.layout_is) in
     let end : y.end ≡ l.layout.end = omega (arith, lies.end_is, ap place_behind same.0, has.at_is, ap (λ p. p.end) r.layout_is) in
     let later : y.later ≡ later_of l.layout.later = none ∙ sym (ap (λ p. later_of p.later) r.layout_is) in
-    let still : false ≡ l.layout.grows = sym (ap (λ p. p.grows) r.layout_is) in
+    let still : Still ≡ l.layout.grows = sym (ap (λ p. p.grows) r.layout_is) in
     let i : y.index ≡ index = is.1 ∙ ap (λ vs. indexed 0 unformatted vs) same.0 ∙ sym has.index_is in
     record {
       layout = λ k. record { ops = ops k; end = end k; later = later k; index = i k; grows = still k };
@@ -156,7 +157,7 @@ module _ (v : Version) (y : Layout) (z : Slots) (bytes : List ℕ) (g : Segment)
         let ops : g.ops ≡ last.ops = cur.ops_is ∙ ap op_count rows ∙ sym has.ops_is in
         let end : g.end ≡ last.at = omega (arith, cur.end_is, ap place_behind rows, as_read.gate_is, has.at_is) in
         let size : base_length cur.base g.areas ≡ c.gate - (c.found.place + 5) = omega (arith, as_read.gate_is, as_read.place) in
-        let grows : g.grows ≡ (c.based.kind == growing) = cur.grows_is ∙ sym (ap (λ k. k == growing) as_read.kind_is) in
+        let grows : g.grows ≡ (growth_told c.based.kind) = cur.grows_is ∙ sym (ap (λ k. growth_told k) as_read.kind_is) in
         let limit : g.limit ≡ c.gate + 1 + room_for (least_behind c) last.first = cur.limit_is ∙ (λ i. sym as_read.gate_is i + 1 + room_for (least_for (grows i) (size i)) ((ap first_length rows ∙ sym has.first_is) i)) in
         λ i. record { place = sym as_read.place i; based = entries i; ops = ops i; end = end i; limit = limit i; areas = sym as_read.areas i; number = sym as_read.number i; grows = grows i }
 
@@ -179,7 +180,7 @@ later_same v y z bytes l index version lies sound r =
     let ops : y.ops ≡ l.layout.ops = lies.ops_is ∙ ap op_count h.rows ∙ sym has.ops_is ∙ sym (ap (λ p. p.ops) r.layout_is) in
     let end_is : y.end ≡ l.layout.end = end ∙ sym (ap (λ p. p.end) r.layout_is) in
     let later : y.later ≡ later_of l.layout.later = h.later_is ∙ ap (λ s. Some s) (segment ∙ sym r.segment_is) ∙ sym (ap (λ p. later_of p.later) r.layout_is) in
-    let still : false ≡ l.layout.grows = sym (ap (λ p. p.grows) r.layout_is) in
+    let still : Still ≡ l.layout.grows = sym (ap (λ p. p.grows) r.layout_is) in
     let i : y.index ≡ index = index_same v y z bytes g lies.first is fits.0 fits.1.0 r.later there r.last index r.rest in
     record {
       layout = λ k. record { ops = ops k; end = end_is k; later = later k; index = i k; grows = still k };

@@ -11,7 +11,7 @@ use Rattle.ld_op.specs.Plain.{Plain}
 use Rattle.ld_op.specs.Bytes.{record_bytes}
 use Rattle.ld_op.specs.Cells.{each_plain}
 use Rattle.ld_table.specs.Table.{find}
-use Rattle.ld_layout.specs.Layout.{Layout, Segment, IfSegment, base_length, room_for, head_end, least_for, growing}
+use Rattle.ld_layout.specs.Layout.{Layout, Segment, IfSegment, base_length, room_for, head_end, least_for, growth_told}
 use Rattle.ld_segment.specs.Slots.{head_bytes}
 use Rattle.ld_segment.specs.Later.{IsThere, IsDamagedBehind, IsReadAs}
 use Rattle.ld_segment.specs.declared.later.Later.{Later}
@@ -73,7 +73,7 @@ module _ (v : Version) (y : Layout) (z : Slots) (bytes : List ℕ) (lies : LiesA
         let rows = same_records is.current.records passes.found placed.are passes.placed.are (one_reading (drop c.gate bytes) (bodies_of is.current.records) (bodies_of passes.found) journal passes.journal) in
         let bounded = subst (λ a. IfBounded y.end a) later_is sound.bounded in
         let size : c.gate - (c.found.place + 5) ≡ base_length is.current.base g.areas = omega (arith, read.gate_is, read.place) in
-        let grows : (c.based.kind == growing) ≡ g.grows = ap (λ k. k == growing) read.kind_is ∙ sym is.current.grows_is in
+        let grows : (growth_told c.based.kind) ≡ g.grows = ap (λ k. growth_told k) read.kind_is ∙ sym is.current.grows_is in
         let room : room_for (least_for g.grows (base_length is.current.base g.areas)) (first_length is.current.records) ≡ room_for (least_behind c) (first_length passes.found) = λ i. room_for (least_for (sym grows i) (sym size i)) (first_length (rows i)) in
         omega (arith, bounded.limit, is.current.limit_is, read.gate_is, room, passes.long)
 

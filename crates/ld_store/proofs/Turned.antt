@@ -7,11 +7,12 @@ use Rattle.ld_layout.specs.Areas.{AreLive, IsHeld}
 use Rattle.ld_layout.specs.Layout.{Layout, Segment, live_areas, closed_areas, switches, switched_to}
 use Rattle.ld_segment.specs.Ops.{bodies_of}
 use Rattle.ld_segment.specs.Lies.{Slots, LiesAs, IsSound, IsIndexed, head_of, with_mark, marked_in}
+use Rattle.ld_layout.specs.declared.segment.Growth.{Growth}
 
-abbrev pub turned : Layout → Bool → Layout
+abbrev pub turned : Layout → Growth → Layout
 turned y grows = record y { grows = grows }
 
-module _ (y : Layout) (grows : Bool) where
+module _ (y : Layout) (grows : Growth) where
   head_turned : (rs : List Record) (a : Option Segment) (b : List ℕ) → IsJournal (bodies_of rs ++ head_of y a) b → IsJournal (bodies_of rs ++ head_of (turned y grows) a) b
   head_turned rs None b is = is
   head_turned rs (Some g) b is = is

@@ -10,7 +10,7 @@ use Rattle.ld_op.specs.Plain.{Plain}
 use Rattle.ld_layout.specs.declared.segment.Segment.{Segment as Stretch}
 use Rattle.ld_layout.specs.declared.segment.Layout.{Layout as Plan}
 use Rattle.ld_layout.specs.LaidOut.{laid_out, later_of, gate_behind, ops_behind}
-use Rattle.ld_layout.specs.Layout.{Layout, Segment, full_ops, is_full_first, is_full_later, switches, switched_to}
+use Rattle.ld_layout.specs.Layout.{Layout, Segment, full_ops, full_for, is_full_first, is_full_later, switches, switched_to}
 use Rattle.ld_segment.specs.Stays.{Rests}
 use Rattle.ld_segment.specs.Lies.{Slots, gate_in, row_of, row_made, IsRowTorn}
 use Rattle.ld_segment.specs.Plans.{Planned, planned_calls, planned_end, planned_made, planned_by, planned, IsPlanTorn}
@@ -75,7 +75,7 @@ few y index size goes =
   where
     by : (a : Option Stretch) → is_full_first (laid_out y index) (later_of a) ≡ false → is_full_later size (later_of a) ≡ false → ops_behind y.ops a < full_in a
     by None first later = leb-false full_ops y.ops first
-    by (Some g) first later = leb-false (max full_ops g.based) g.ops (or_parts (nat_le (max full_ops g.based) g.ops) (nat_le g.limit (g.end + record_length size)) later).0
+    by (Some g) first later = leb-false (max (full_for g.grows) g.based) g.ops (or_parts (nat_le (max (full_for g.grows) g.based) g.ops) (nat_le g.limit (g.end + record_length size)) later).0
 
 pub ops_low : (mid : Laid) (index : Plain) (y : Layout) (size most : ℕ) → layout_in mid index ≡ placed_in y size → most ≡ full_in mid.layout.later → most < 2 ^ 64 → ops_behind mid.layout.ops mid.layout.later + 1 < 2 ^ 64
 unfolding switched_to

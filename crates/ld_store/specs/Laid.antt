@@ -4,7 +4,7 @@ use Rattle.ld_msg.specs.Register.{record_length, journal_limit}
 use Rattle.ld_op.specs.Plain.{Plain}
 use Rattle.ld_layout.specs.declared.segment.Segment.{Segment as Stretch}
 use Rattle.ld_layout.specs.LaidOut.{laid_out, is_past}
-use Rattle.ld_layout.specs.Layout.{Layout, full_ops, switches, switched_to}
+use Rattle.ld_layout.specs.Layout.{Layout, full_ops, full_for, switches, switched_to}
 use Rattle.ld_segment.specs.Lies.{Slots, segment_for, gate_in}
 use Rattle.ld_segment.specs.Plans.{planned, planned_end}
 use Rattle.ld_store.specs.declared.laid.Laid.{Laid}
@@ -22,7 +22,7 @@ placed_in y size = if switches y size then switched_to y (record_length size) (r
 -- the number of ops with which the current segment is full
 abbrev pub full_in : Option Stretch → ℕ
 full_in None = full_ops
-full_in (Some g) = max full_ops g.based
+full_in (Some g) = max (full_for g.grows) g.based
 
 -- a record, or the segment that it needs, passes the limit
 abbrev pub IsPast : ℕ → Layout → Slots → List ℕ → Type 0

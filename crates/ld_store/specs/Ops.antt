@@ -1,5 +1,5 @@
 -- What the bytes of a node's disk represent, where they are of the first version, and where something in them is out of place.
-use Rattle.std.specs.Prelude.{◌≡◌, ◌⊎◌, ◌<◌, ◌+◌, ◌-◌, ◌^◌, ◌==◌, ℕ, List, [], ◌∷◌, ◌++◌, length, drop, Option, Some, None, true, false, nat_lt, if◌then◌else◌}
+use Rattle.std.specs.Prelude.{◌≡◌, ◌⊎◌, ◌<◌, ◌+◌, ◌-◌, ◌^◌, ◌==◌, ℕ, List, [], ◌∷◌, ◌++◌, length, drop, Option, Some, None, Bool, true, false, nat_lt, if◌then◌else◌}
 use Rattle.ld_journal.specs.Format.{framed, records, IsJournal, IsCutShort}
 use Rattle.ld_journal.specs.Rest.{IsShut}
 use Rattle.ld_msg.specs.Register.{journal_limit}
@@ -11,8 +11,9 @@ use Rattle.ld_op.specs.Records.{version_after}
 use Rattle.ld_op.specs.Bounds.{IsRecord}
 use Rattle.ld_op.specs.Bytes.{record_bytes}
 use Rattle.ld_op.specs.Cells.{each_plain}
+use Rattle.ld_table.specs.Named.{same}
 use Rattle.ld_table.specs.Table.{find}
-use Rattle.ld_layout.specs.Layout.{Layout, Segment, least_for, room_for, growing}
+use Rattle.ld_layout.specs.Layout.{Layout, Segment, least_for, room_for, growth_told}
 use Rattle.ld_segment.specs.Stays.{StandsAt}
 use Rattle.ld_segment.specs.Slots.{head_bytes, slot_length}
 use Rattle.ld_segment.specs.Ops.{bodies_of, place_behind, indexed, ArePlaced}
@@ -22,6 +23,13 @@ use Rattle.ld_segment.specs.declared.later.Later.{Later}
 pub use Rattle.ld_op.specs.Records.{is_format}
 pub use Rattle.ld_segment.specs.Ops.{IsJournalOf}
 pub use Rattle.ld_segment.specs.Lies.{StandsFor, StandsForEither}
+use Rattle.ld_layout.specs.declared.segment.Growth.TheVariants.{Still}
+
+-- so many bytes, those that the disk gave, whatever it has, were compared with a payload
+pub record IsCompared (count : ℕ) (payload : List ℕ) (is_there : Bool) : Type 0 where
+  pub bytes : List ℕ
+  pub long : length bytes ≡ count
+  pub same : is_there ≡ same bytes payload
 
 -- ---- journals of the first version ----
 
@@ -43,7 +51,7 @@ pub record IsOfFirst (bytes : List ℕ) : Type 0 where
   pub sound : IsSound layout
   pub slots_are : IfOpenAs layout.later slots bytes
   -- what a mark begins is a segment of the first version, whose room doesn't grow
-  pub still : layout.grows ≡ false
+  pub still : layout.grows ≡ Still
 
 -- where bytes represent a plain state
 abbrev pub IfStands : (List ℕ → Type 0) → List ℕ → Type 0
@@ -109,7 +117,7 @@ pub record IsDamagedRow (MayStand : Version → List ℕ → Type 0) (from : ℕ
 
 -- the least space for records behind this Base, by its first byte and the gate behind it
 abbrev pub least_behind : Later → ℕ
-least_behind c = least_for (c.based.kind == growing) (c.gate - (c.found.place + 5))
+least_behind c = least_for (growth_told c.based.kind) (c.gate - (c.found.place + 5))
 
 -- the segment of this Base, with the records behind it, would pass the limit
 pub record PassesLimit (c : Later) (bytes : List ℕ) : Type 0 where

@@ -9,7 +9,7 @@ use Rattle.ld_table.specs.Table.{find}
 use Rattle.ld_layout.specs.declared.segment.Segment.{Segment as Stretch}
 use Rattle.ld_layout.specs.LaidOut.{segment_of}
 use Rattle.ld_op.specs.Indexed.{entry_count}
-use Rattle.ld_layout.specs.Layout.{Segment, room_for, growing}
+use Rattle.ld_layout.specs.Layout.{Segment, room_for, growth_told}
 use Rattle.ld_segment.specs.Found.{slots_of}
 use Rattle.ld_segment.specs.Later.{IsThere}
 use Rattle.ld_segment.specs.declared.later.Later.{Later}
@@ -18,6 +18,7 @@ use Rattle.ld_store.specs.Laid.{slots_in}
 use Rattle.ld_store.specs.Replayed.{Replayed}
 use Rattle.ld_store.specs.declared.laid.Laid.{Laid}
 use Rattle.ld_store.specs.declared.replay.Walk.{Walk}
+use Rattle.ld_layout.specs.declared.segment.Growth.TheVariants.{Still}
 
 -- the segment of a Base, with the records behind it
 abbrev pub read_segment : Later → Walk → Segment
@@ -29,14 +30,14 @@ read_segment c w = record {
   limit = c.gate + 1 + room_for (least_behind c) w.first;
   areas = c.based.areas;
   number = c.found.number;
-  grows = c.based.kind == growing;
+  grows = growth_told c.based.kind;
 }
 
 -- these bytes are a journal of one segment
 pub record IsFirstRead (bytes : List ℕ) (l : Laid) (index : Plain) (version : Version) : Type 0 where
   pub walk : Walk
   pub all : Replayed 0 Blank unformatted bytes walk index None
-  pub layout_is : l.layout ≡ record { ops = walk.ops; end = walk.at; later = None; grows = false }
+  pub layout_is : l.layout ≡ record { ops = walk.ops; end = walk.at; later = None; grows = Still }
   pub version_is : version ≡ walk.version
 
 -- the first segment's records end at the head, and behind the Base that its slots name stand those of another one
@@ -55,7 +56,7 @@ pub record IsLaterRead (bytes : List ℕ) (l : Laid) (index : Plain) (version : 
   pub inside : each_plain (within (length bytes)) index ≡ index
   pub segment : Stretch
   pub segment_is : segment_of segment ≡ read_segment later last
-  pub layout_is : l.layout ≡ record { ops = walk.ops; end = walk.at; later = Some segment; grows = false }
+  pub layout_is : l.layout ≡ record { ops = walk.ops; end = walk.at; later = Some segment; grows = Still }
   pub slots_are : slots_in l ≡ slots_of later.found
   pub version_is : version ≡ last.version
 

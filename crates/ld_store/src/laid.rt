@@ -3,11 +3,11 @@ ghost use Rattle.std.specs.Prelude.{◌≡◌, ◌<◌, ◌≤◌, ◌+◌, ◌^
 ghost use Rattle.ld_msg.specs.Register.{record_length};
 ghost use Rattle.ld_op.specs.Plain.{Plain as State};
 ghost use Rattle.ld_layout.specs.LaidOut.{segment_of, later_of, laid_out, gate_behind, ops_behind, recorded};
-ghost use Rattle.ld_layout.specs.Layout.{switches};
+ghost use Rattle.ld_layout.specs.Layout.{switches, switch_number};
 ghost use Rattle.ld_segment.specs.Lies.{Slots, segment_for, slots_after, slots_with};
 ghost use Rattle.ld_store.specs.Laid.{layout_in, slots_in, placed_in, full_in};
 
-use ld_layout::{FULL_OPS, Layout, Segment};
+use ld_layout::{FULL_OPS, Growth, Layout, Segment, full_ops};
 
 /// Where its segments lie; the offset of the slot behind the head that counts and that of the other one, and whether that
 /// one's gate is open.
@@ -27,7 +27,7 @@ impl Laid {
                 ops: 0,
                 end: 0,
                 later: None,
-                grows: false,
+                grows: Growth::Still,
             },
             this: 0,
             other: 0,
@@ -45,12 +45,22 @@ impl Laid {
         }
     }
 
+    /// How many switches there were.
+    pub(crate) fn number(&self) -> u64
+        ensures { result ≡ switch_number (later_of self.now.layout.later) }
+    {
+        match &self.layout.later {
+            Some(segment) => segment.number,
+            None => 0,
+        }
+    }
+
     /// The number of ops with which the current segment is full.
     pub(crate) fn full_ops(&self) -> u64
         ensures { result ≡ full_in self.now.layout.later }
     {
         match &self.layout.later {
-            Some(segment) => FULL_OPS.max(segment.based),
+            Some(segment) => full_ops(segment.grows).max(segment.based),
             None => FULL_OPS,
         }
     }

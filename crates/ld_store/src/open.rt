@@ -13,6 +13,7 @@ ghost use Rattle.ld_store.specs.Laid.{layout_in, slots_in, IsPast};
 ghost use Rattle.ld_store.specs.Loads.{Marks, refused_by};
 ghost use Rattle.ld_store.specs.Read.{IsOut};
 ghost use Rattle.ld_store.specs.Opened.{IsSettled, IsOpen, IsBlank};
+ghost use Rattle.ld_layout.specs.declared.segment.Growth.TheVariants.{Still};
 
 use crate::StoreFault;
 use crate::laid::Laid;
@@ -77,7 +78,7 @@ pub(crate) fn open<D: Disk>(alloc: Global, disk: &mut D, len: u64) -> Result<Ope
     ensures opened { IfOk result (λ o. (bytes : List ℕ) → IsSettled D.seen D.may_leave disk.old len bytes → IsOpen D.seen D.may_leave disk.new o.laid o.index.state o.blank bytes) }
     ensures blank { IfOk result (λ o. (bytes : List ℕ) → IsSettled D.seen D.may_leave disk.old len bytes → IsBlank o.blank bytes) }
     ensures well { IfOk result (λ o. IsWell o.index.state) }
-    ensures still { IfOk result (λ o. o.laid.layout.grows ≡ false) }
+    ensures still { IfOk result (λ o. o.laid.layout.grows ≡ Still) }
     ensures damaged { (place : ℕ) → IsErrOf result (StoreFault.Damaged place) → (bytes : List ℕ) → IsSettled D.seen D.may_leave disk.old len bytes → IsOut place bytes }
     ensures any_moment { (bytes : List ℕ) → IsSettled D.seen D.may_leave disk.old len bytes → LeavesOnly D.moment D.left_since disk.old disk.new (IsMarkedOrNot bytes) ⊎ Unchanged D.seen D.may_leave D.moment D.left_since disk.old disk.new }
     ensures reads { OnErr result (IsErrOf result StoreFault.Disk ⊎ Unchanged D.seen D.may_leave D.moment D.left_since disk.old disk.new) }

@@ -1,5 +1,5 @@
 // How a disk is read: the first segment, and the later one that its head names.
-ghost use Rattle.std.specs.Prelude.{◌≡◌, ◌≢◌, ◌⊎◌, ◌≤◌, ◌<◌, ◌+◌, ◌-◌, ◌^◌, ◌++◌, List, ℕ, length, IfOk, IfSome, IfNone, OnOk, OnErr, IsErrOf, Err, Some, None, true, false};
+ghost use Rattle.std.specs.Prelude.{◌≡◌, ◌≢◌, ◌⊎◌, ◌≤◌, ◌<◌, ◌+◌, ◌-◌, ◌^◌, ◌++◌, List, ℕ, min, length, IfOk, IfSome, IfNone, OnOk, OnErr, IsErrOf, Err, Some, None, true, false};
 ghost use Rattle.ld_io.specs.Causes.{Rose};
 ghost use Rattle.ld_disk.specs.Moments.{Unchanged};
 ghost use Rattle.ld_disk.specs.Plain.{Plain as DiskPlain, reads_fine};
@@ -17,13 +17,16 @@ ghost use Rattle.ld_store.specs.Ops.{IsDamagedIn, within};
 ghost use Rattle.ld_store.specs.Laid.{slots_in};
 ghost use Rattle.ld_segment.specs.Found.{slots_of};
 ghost use Rattle.ld_segment.specs.Later.{IsThere};
+ghost use Rattle.ld_layout.specs.declared.segment.Growth.TheVariants.{Still};
 
 use crate::StoreFault;
 use crate::laid::Laid;
 use crate::replay::{Walk, replay};
 use ld_disk::Disk;
 use ld_journal::read_record;
-use ld_layout::{Areas, Based, LEAST_ROOM, LIMIT, Layout, Segment};
+use ld_layout::{
+    Areas, Based, Growth, LEAST_ROOM, LIMIT, Layout, Segment, WIDE_BASES, WIDE_ROOM, growth_told,
+};
 use ld_op::{Plain, Version};
 use ld_segment::{Found, Later, read_later};
 use std::alloc::Global;
@@ -59,13 +62,15 @@ fn end_of_head<D: Disk>(alloc: Global, disk: &mut D, at: u64, len: u64) -> Resul
 }
 
 /// The least space for records behind the Base at this offset that ends at a gate.
-fn least_behind(grows: bool, place: u64, gate: u64) -> u64
-    ensures { result ≡ least_for grows (gate - (place + 5)) }
+fn least_behind(grows: Growth, place: u64, gate: u64) -> u64
+    ensures { result ≡ min (least_for grows (gate - (place + 5))) (2 ^ 64 - 1) }
 {
-    if grows {
-        return gate.saturating_sub(place).saturating_sub(5).max(LEAST_ROOM);
+    let base = gate.saturating_sub(place).saturating_sub(5);
+    match grows {
+        Growth::Still => LEAST_ROOM,
+        Growth::Based => base.max(LEAST_ROOM),
+        Growth::Wide => base.saturating_mul(WIDE_BASES).max(WIDE_ROOM),
     }
-    LEAST_ROOM
 }
 
 /// The segment of a Base at this offset, which ends at a gate, with the records behind it; none where it would pass the
@@ -76,7 +81,7 @@ fn segment_behind(
     based: u64,
     areas: Areas,
     number: u64,
-    grows: bool,
+    grows: Growth,
     last: Walk,
 ) -> Option<Segment>
     ensures some { IfSome result (λ g. segment_of g ≡ record { place = place; based = based; ops = last.ops; end = last.at; limit = gate + 1 + room_for (least_for grows (gate - (place + 5))) last.first; areas = areas; number = number; grows = grows }) }
@@ -114,7 +119,7 @@ fn read_behind<D: Disk>(
     ensures damaged { (place : ℕ) → IsErrOf result (StoreFault.Damaged place) → (closed : State) (bytes : List ℕ) → D.seen disk.old ≡ Some bytes → len ≡ length bytes
         → Replayed 0 Blank unformatted bytes walk closed (Some head) → IsOut place bytes }
     ensures well { IfOk result (λ j. IsWell j.index.state) }
-    ensures still { IfOk result (λ j. j.laid.layout.grows ≡ false) }
+    ensures still { IfOk result (λ j. j.laid.layout.grows ≡ Still) }
     ensures exact { (p : DiskPlain) → D.plain disk.old ≡ Some p → reads_fine p ≡ true
         → (D.plain disk.new ≡ Some p) × (result ≢ Err StoreFault.Disk) }
     ensures same { Unchanged D.seen D.may_leave D.moment D.left_since disk.old disk.new }
@@ -157,7 +162,7 @@ fn read_rest<D: Disk>(
     ensures damaged { (place : ℕ) → IsErrOf result (StoreFault.Damaged place) → (bytes : List ℕ) → D.seen disk.old ≡ Some bytes → len ≡ length bytes
         → IsThere walk.version head later bytes → IsDamagedIn walk.version head place bytes }
     ensures well { IfOk result (λ j. IsWell j.index.state) }
-    ensures still { IfOk result (λ j. j.laid.layout.grows ≡ false) }
+    ensures still { IfOk result (λ j. j.laid.layout.grows ≡ Still) }
     ensures exact { (p : DiskPlain) → D.plain disk.old ≡ Some p → reads_fine p ≡ true
         → (D.plain disk.new ≡ Some p) × (result ≢ Err StoreFault.Disk) }
     ensures same { Unchanged D.seen D.may_leave D.moment D.left_since disk.old disk.new }
@@ -193,7 +198,7 @@ fn read_rest<D: Disk>(
         based,
         areas,
         found.number,
-        kind == 14,
+        growth_told(kind),
         last,
     ) {
         Some(segment) => Ok(Journal {
@@ -207,7 +212,7 @@ fn read_rest<D: Disk>(
 
 /// The first segment's records, the current segment behind them, and the slots that name it.
 fn laid_behind(walk: Walk, segment: Segment, found: Found) -> Laid
-    ensures layout { result.layout ≡ record { ops = walk.ops; end = walk.at; later = Some segment; grows = false } }
+    ensures layout { result.layout ≡ record { ops = walk.ops; end = walk.at; later = Some segment; grows = Still } }
     ensures slots { slots_in result ≡ slots_of found }
 {
     Laid {
@@ -215,7 +220,7 @@ fn laid_behind(walk: Walk, segment: Segment, found: Found) -> Laid
             ops: walk.ops,
             end: walk.at,
             later: Some(segment),
-            grows: false,
+            grows: Growth::Still,
         },
         this: found.this,
         other: found.other,
@@ -225,14 +230,14 @@ fn laid_behind(walk: Walk, segment: Segment, found: Found) -> Laid
 
 /// The first segment's records alone; there are no slots.
 fn laid_alone(walk: Walk) -> Laid
-    ensures { result.layout ≡ record { ops = walk.ops; end = walk.at; later = None; grows = false } }
+    ensures { result.layout ≡ record { ops = walk.ops; end = walk.at; later = None; grows = Still } }
 {
     Laid {
         layout: Layout {
             ops: walk.ops,
             end: walk.at,
             later: None,
-            grows: false,
+            grows: Growth::Still,
         },
         this: 0,
         other: 0,
@@ -245,7 +250,7 @@ pub(crate) fn read<D: Disk>(alloc: Global, disk: &mut D, len: u64) -> Result<Jou
     ensures read { IfOk result (λ j. (bytes : List ℕ) → D.seen disk.old ≡ Some bytes → len ≡ length bytes → 0 < length bytes → IsRead bytes j.laid j.index.state j.version) }
     ensures damaged { (place : ℕ) → IsErrOf result (StoreFault.Damaged place) → (bytes : List ℕ) → D.seen disk.old ≡ Some bytes → len ≡ length bytes → 0 < length bytes → IsOut place bytes }
     ensures well { IfOk result (λ j. IsWell j.index.state) }
-    ensures still { IfOk result (λ j. j.laid.layout.grows ≡ false) }
+    ensures still { IfOk result (λ j. j.laid.layout.grows ≡ Still) }
     ensures exact { (p : DiskPlain) → D.plain disk.old ≡ Some p → reads_fine p ≡ true
         → (D.plain disk.new ≡ Some p) × (result ≢ Err StoreFault.Disk) }
     ensures same { Unchanged D.seen D.may_leave D.moment D.left_since disk.old disk.new }

@@ -2,6 +2,7 @@
 ghost use Rattle.std.specs.Prelude.{◌≡◌, true};
 ghost use Rattle.ld_store.specs.Well.{IsWell, IsWell-prop};
 ghost use Rattle.ld_store.specs.Low.{IsLow, IsLow-prop};
+ghost use Rattle.ld_layout.specs.declared.segment.Growth.TheVariants.{Still};
 
 use crate::StoreFault;
 use crate::group::stage_record;
@@ -12,6 +13,7 @@ use crate::write::keep_op;
 use ld_disk::{Disk, Fault};
 use ld_ids::Payload;
 use ld_journal::settle;
+use ld_layout::Growth;
 use ld_msg::Msg;
 use ld_op::{Draft, Epochs, Op, Place, Plain};
 use ld_segment::open_group;
@@ -45,9 +47,9 @@ impl<D: Disk> Store<D> {
     ghost use Rattle.ld_op.specs.declared.op.Op.TheVariants as kinds;
     ghost use Rattle.ld_op.specs.Plain.{Plain as State, apply, op_length};
     ghost use Rattle.ld_op.specs.Bounds.{IsOp};
-    ghost use Rattle.ld_layout.specs.Layout.{kept_in, passes_limit};
+    ghost use Rattle.ld_layout.specs.Layout.{kept_in, passes_limit, switch_number};
     ghost use Rattle.ld_segment.specs.Lies.{IsSound, op_row, slots_with};
-    ghost use Rattle.ld_store.specs.Ops.{is_format, StandsFor, StandsForEither, IfStands, IsOfFirst, HasNoRoom, IsDamaged};
+    ghost use Rattle.ld_store.specs.Ops.{is_format, IsCompared, StandsFor, StandsForEither, IfStands, IsOfFirst, HasNoRoom, IsDamaged};
     ghost use Rattle.ld_store.specs.Loads.{LeftOrMarked, Loads};
     ghost use Rattle.ld_op.specs.Cells.{each_msg, byte_at};
     ghost use Rattle.ld_store.specs.Open.{disk_of, must_load, is_blank, index_of, layout_of, slots_of, plain_of, staged_of, within, Holds, IsOpened};
@@ -70,7 +72,7 @@ impl<D: Disk> Store<D> {
     pub fn load(alloc: Global, disk: D) -> Result<Store<D>, (D, StoreFault)>
         ensures opens { IfOk result (λ store. IfSome (D.seen disk) (IsOpened D.seen D.may_leave store)) }
         ensures works { IfOk result (λ store. must_load store ≡ false) }
-        ensures still { IfOk result (λ store. (layout_of store).grows ≡ false) }
+        ensures still { IfOk result (λ store. (layout_of store).grows ≡ Still) }
         ensures itself { MatchResult result (λ store. D.identity (disk_of store) ≡ D.identity disk) (λ e. D.identity e.0 ≡ D.identity disk) }
         ensures counts { MatchResult result (λ store. D.faults disk ≤ D.faults (disk_of store)) (λ e. D.faults disk ≤ D.faults e.0) }
         ensures steady { MatchResult result (λ store. D.faults (disk_of store) ≡ D.faults disk) (λ e. (e.1 ≡ StoreFault.Disk) ⊎ (D.faults e.0 ≡ D.faults disk)) }
@@ -139,9 +141,9 @@ impl<D: Disk> Store<D> {
         self.failed
     }
 
-    /// Lets the room of each segment that is begun from now on grow with its Base, or not. No byte of the disk tells it: a
-    /// store that was loaded lets none grow.
-    pub fn grow(&mut self, grows: bool)
+    /// How the room of each segment that is begun from now on grows. No byte of the disk tells it: a store that was loaded
+    /// lets none grow.
+    pub fn grow(&mut self, grows: Growth)
         ensures layout { layout_of self.new ≡ record (layout_of self.old) { grows = grows } }
         ensures rest { (slots_of self.new ≡ slots_of self.old) × (index_of self.new ≡ index_of self.old) × (disk_of self.new ≡ disk_of self.old) × (is_blank self.new ≡ is_blank self.old) × (must_load self.new ≡ must_load self.old) × (staged_of self.new ≡ staged_of self.old) }
         ensures holds { Holds D.seen D.may_leave self.old → Holds D.seen D.may_leave self.new }
@@ -157,6 +159,13 @@ impl<D: Disk> Store<D> {
         ensures well { IsWell result.now.state }
     {
         &self.index
+    }
+
+    /// How many switches there were to a new segment: 0 in the first one.
+    pub fn segment(&self) -> u64
+        ensures { result ≡ switch_number (layout_of self.now).later }
+    {
+        self.laid.number()
     }
 
     /// Gives the disk back, as the last call left it.
@@ -416,6 +425,7 @@ impl<D: Disk> Store<D> {
         payload: &Payload,
     ) -> Result<bool, StoreFault>
         ensures has { IfOk result (λ is_there. IfSome (D.seen (disk_of self.old)) (λ bytes. is_there ≡ same (map (byte_at bytes) (numbers_from place.at place.len)) payload.now)) }
+        ensures compared { IfOk result (λ is_there. IsCompared place.len payload.now is_there) }
         ensures damaged { (at : ℕ) → IsErrOf result (StoreFault.Damaged at) → (at ≡ place.at)
             × IfSome (D.seen (disk_of self.old)) (λ bytes. map (within (length bytes)) (numbers_from place.at place.len) ≢ numbers_from place.at place.len) }
         ensures same { Unchanged D.seen D.may_leave D.moment D.left_since (disk_of self.old) (disk_of self.new) }

@@ -3,7 +3,7 @@ ghost use Rattle.std.specs.Prelude.{◌<◌, ◌^◌};
 
 use ld_ids::NoMemory;
 use ld_layout::{
-    Areas, Based, Layout, Segment, base_length, decode_base, encode_base, least_place, used,
+    Areas, Based, Growth, Layout, Segment, base_length, decode_base, encode_base, least_place, used,
 };
 use ld_op::{OpFault, Plain};
 use std::alloc::Global;
@@ -62,7 +62,7 @@ fn second(alloc: Global, cause: u32) -> [u64; 4] {
         ops: 64,
         end: 1000,
         later: None,
-        grows: false,
+        grows: Growth::Still,
     };
     told(layout.new_segment(alloc, &Plain::new(alloc), u64::from(cause)))
 }
@@ -81,20 +81,20 @@ fn behind(alloc: Global, place: u32, limit: u64) -> [u64; 4] {
             limit,
             areas: Areas::new(alloc),
             number: 7,
-            grows: false,
+            grows: Growth::Still,
         }),
-        grows: false,
+        grows: Growth::Still,
     };
     told(layout.new_segment(alloc, &Plain::new(alloc), 100))
 }
 
 // What is told of a segment whose Base is read, of 11 bytes; the limit is 2^40.
 fn read_at(alloc: Global, place: u64, first: u32) -> [u64; 4] {
-    read_behind(alloc, place, 11, false, first)
+    read_behind(alloc, place, 11, Growth::Still, first)
 }
 
-// The same of a Base of so many bytes, whose segment's room grows with it or doesn't.
-fn read_behind(alloc: Global, place: u64, base: u32, grows: bool, first: u32) -> [u64; 4] {
+// The same of a Base of so many bytes, whose segment's room grew in this way.
+fn read_behind(alloc: Global, place: u64, base: u32, grows: Growth, first: u32) -> [u64; 4] {
     let areas = Areas::new(alloc);
     told(Ok(Segment::behind_base(place, u64::from(base), 0, areas, 1, grows, u64::from(first))))
 }
@@ -110,13 +110,33 @@ fn count_used(alloc: Global, bytes: &[u8]) -> usize {
     }
 }
 
+// Whether a segment is full that has so many op records behind a Base of so many entries.
+fn is_full(alloc: Global, grows: Growth, based: u32, ops: u32) -> bool {
+    let layout = Layout {
+        ops: 64,
+        end: 1000,
+        later: Some(Segment {
+            place: 1049,
+            based: u64::from(based),
+            ops: u64::from(ops),
+            end: 2000,
+            limit: 1 << 40,
+            areas: Areas::new(alloc),
+            number: 1,
+            grows,
+        }),
+        grows,
+    };
+    layout.switches(100)
+}
+
 // Whether a record of so many bytes passes the limit behind a first segment that ends twenty bytes before it.
 fn passes(alloc: Global, body: u32) -> Result<bool, NoMemory> {
     let layout = Layout {
         ops: 1,
         end: (1 << 40) - 20,
         later: None,
-        grows: false,
+        grows: Growth::Still,
     };
     layout.passes_limit(alloc, &Plain::new(alloc), u64::from(body))
 }
@@ -182,17 +202,42 @@ fn a_read_segment_has_room_for_its_first_record(rt: HostRuntime) -> Result<(), F
 fn a_growing_segment_has_room_for_as_much_as_its_base(rt: HostRuntime) -> Result<(), Fail> {
     let rows = [
         // It doesn't grow.
-        (200_000, false, 100, 332_127),
-        (200_000, true, 100, 401_055),
+        (200_000, Growth::Still, 100, 332_127),
+        (200_000, Growth::Based, 100, 401_055),
         // Its first record is longer than the Base.
-        (200_000, true, 300_000, 501_055),
+        (200_000, Growth::Based, 300_000, 501_055),
         // The least room is more.
-        (11, true, 100, 132_138),
-        (131_073, true, 100, 263_201),
+        (11, Growth::Based, 100, 132_138),
+        (131_073, Growth::Based, 100, 263_201),
+        // It is wide: 16 Bases are less, or more, or the first record is longer.
+        (11, Growth::Wide, 100, 4_195_370),
+        (200_000, Growth::Wide, 100, 4_395_359),
+        (300_000, Growth::Wide, 100, 5_101_055),
+        (5_000_000, Growth::Wide, 100, 85_001_055),
+        (11, Growth::Wide, 5_000_000, 5_001_066),
     ];
     for (base, grows, first, limit) in rows {
         let [_, _, found, _] = read_behind(rt.alloc(), 1_049, base, grows, first);
         assert_eq!(rt; found, limit);
+    }
+    Ok(())
+}
+
+#[test]
+fn a_wide_segment_takes_more_records(rt: HostRuntime) -> Result<(), Fail> {
+    let rows = [
+        (Growth::Still, 0, 63, false),
+        (Growth::Still, 0, 64, true),
+        (Growth::Based, 64, 64, true),
+        (Growth::Based, 65, 64, false),
+        (Growth::Wide, 0, 64, false),
+        (Growth::Wide, 4_096, 4_095, false),
+        (Growth::Wide, 4_096, 4_096, true),
+        (Growth::Wide, 4_097, 4_096, false),
+        (Growth::Wide, 4_097, 4_097, true),
+    ];
+    for (grows, based, ops, expected) in rows {
+        assert_eq!(rt; is_full(rt.alloc(), grows, based, ops), expected);
     }
     Ok(())
 }
@@ -214,12 +259,14 @@ fn no_record_passes_the_limit(rt: HostRuntime) -> Result<(), Fail> {
 #[test]
 fn a_base_is_written_as_it_is_read(rt: HostRuntime) -> Result<(), Fail> {
     assert!(rt; is_same_again(rt.alloc(), BASE));
-    // The Base of a segment that grows.
+    // The Base of a segment that grows, and of one that is wide.
     let mut growing = Vec::from_slice(rt.alloc(), BASE)?;
-    if let Some(kind) = growing.first_mut() {
-        *kind = 14;
+    for told in [14, 15] {
+        if let Some(kind) = growing.first_mut() {
+            *kind = told;
+        }
+        assert!(rt; is_same_again(rt.alloc(), &growing));
     }
-    assert!(rt; is_same_again(rt.alloc(), &growing));
     Ok(())
 }
 
@@ -229,7 +276,7 @@ fn other_bytes_are_no_base(rt: HostRuntime) -> Result<(), Fail> {
     let off = [
         // A body of another kind.
         is_off_at(alloc, 0, &[12]),
-        is_off_at(alloc, 0, &[15]),
+        is_off_at(alloc, 0, &[16]),
         // No body.
         is_off_at(alloc, 0, &[]),
         // The generation is cut off.

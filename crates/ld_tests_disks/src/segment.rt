@@ -5,7 +5,7 @@ ghost use Rattle.ld_segment.specs.Plans.{IsReady};
 
 use ld_disk::{Disk, MemDisk, Picture};
 use ld_journal::JournalFault;
-use ld_layout::{Areas, LIMIT, Layout, Segment};
+use ld_layout::{Areas, Growth, LIMIT, Layout, Segment};
 use ld_op::{Plain, Version};
 use ld_segment::{Plan, Slot, current, read_later, says, write_op};
 use std::alloc::Global;
@@ -68,7 +68,7 @@ fn switched(alloc: Global, kind: u8) -> Result<MemDisk, JournalFault> {
         ops: 64,
         end: 0,
         later: None,
-        grows: false,
+        grows: Growth::Still,
     };
     write(alloc, &mut disk, &layout, 0, false, kind)?;
     Ok(disk)
@@ -87,9 +87,9 @@ fn switch_again(alloc: Global, disk: &mut MemDisk) -> Result<(), JournalFault> {
             limit: 131_138,
             areas: Areas::new(alloc),
             number: 1,
-            grows: false,
+            grows: Growth::Still,
         }),
-        grows: false,
+        grows: Growth::Still,
     };
     write(alloc, disk, &layout, 32, false, 13)
 }

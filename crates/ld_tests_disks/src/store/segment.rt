@@ -4,6 +4,7 @@ ghost use Rattle.std.specs.Prelude.{◌≤◌, ◌<◌, ◌-◌, ◌^◌};
 use crate::store::payload::read;
 use crate::store::{PICTURES, accept, fill, first_log, formatted, has, keep, loaded};
 use ld_disk::{Disk, Fault, MemDisk, Picture};
+use ld_layout::Growth;
 use ld_lsn::Lsn;
 use ld_op::Op;
 use ld_store::{Store, StoreFault};
@@ -249,8 +250,8 @@ fn slots_are_read_and_written_where_the_head_names_them(rt: HostRuntime) -> Resu
 }
 
 /// The first byte of the Base behind the first switch, and whether the last entry, and one more, are loaded again, of a store
-/// whose next segments' room grows or doesn't.
-fn grown(alloc: Global, grows: bool) -> Result<(u8, bool, bool), Fail> {
+/// whose next segments' room grows in this way.
+fn grown(alloc: Global, grows: Growth) -> Result<(u8, bool, bool), Fail> {
     let mut store = formatted(alloc)?;
     store.grow(grows);
     fill(alloc, &mut store, 64)?;
@@ -264,8 +265,8 @@ fn grown(alloc: Global, grows: bool) -> Result<(u8, bool, bool), Fail> {
 }
 
 #[test]
-fn a_base_tells_whether_its_segment_grows(rt: HostRuntime) -> Result<(), Fail> {
-    for (grows, kind) in [(false, 13), (true, 14)] {
+fn a_base_tells_how_its_segment_grows(rt: HostRuntime) -> Result<(), Fail> {
+    for (grows, kind) in [(Growth::Still, 13), (Growth::Based, 14), (Growth::Wide, 15)] {
         assert_eq!(rt; grown(rt.alloc(), grows)?, (kind, true, true));
     }
     Ok(())

@@ -1,7 +1,8 @@
-use Rattle.std.proofs.Common.{◌≡◌, ◌≤◌, ◌+◌, ◌==◌, Err, inl, inr, refl, ap, sym, ◌∙◌, subst, arith}
+use Rattle.std.proofs.Common.{◌≡◌, ◌≤◌, ◌<◌, ◌+◌, ◌-◌, Err, inl, inr, refl, ap, sym, ◌∙◌, subst, arith}
 use Rattle.ld_op.specs.Cells.{each_plain}
-use Rattle.ld_layout.specs.Layout.{room_for, growing}
-use Rattle.ld_store.specs.Ops.{within, least_behind}
+use Rattle.ld_msg.specs.Register.{journal_limit}
+use Rattle.ld_layout.specs.Layout.{least_for, room_for}
+use Rattle.ld_store.specs.Ops.{within}
 use Rattle.ld_store.specs.declared.fault.StoreFault.TheVariants as stores
 use Rattle.ld_store.specs.Replayed.{Replayed}
 use Rattle.ld_store.proofs.Faults.{err_is, same_place}
@@ -61,7 +62,7 @@ returns-in-Some-segment_behind-clause-read g c closed bytes told len first shut 
       areas = (λ place size is. subst (λ n. place + size ≤ n) len (c.lie_within.ensures.within c.if-not-lie_within.false place size is));
       inside = subst (λ n. each_plain (within n) index ≡ index) len (c.stands_within.ensures.within c.if-not-stands_within.false);
       segment = c.in-Some-segment_behind.segment;
-      segment_is = c.in-Some-segment_behind.ensures.some ∙ ap (λ n. record { place = later.found.place; based = n; ops = last.ops; end = last.at; limit = later.gate + 1 + room_for (least_behind later) last.first; areas = later.based.areas; number = later.found.number; grows = later.based.kind == growing }) c.entry_count-based.ensures;
+      segment_is = c.in-Some-segment_behind.ensures.some ∙ (λ k. record { place = later.found.place; based = c.entry_count-based.ensures k; ops = last.ops; end = last.at; limit = later.gate + 1 + room_for (least_for (c.growth_told.ensures k) (later.gate - (later.found.place + 5))) last.first; areas = later.based.areas; number = later.found.number; grows = c.growth_told.ensures k });
       layout_is = c.laid_behind.ensures.layout;
       slots_are = c.laid_behind.ensures.slots;
       version_is = refl;
@@ -77,5 +78,5 @@ returns-in-None-clause-damaged g c place is bytes told len there =
     record {
       later = later;
       there = there;
-      cause = inr (sym (same_place later.found.place place (error_of (stores.Damaged later.found.place) (stores.Damaged place) is)), inl (past_in later bytes last c.replay.new.index.state all c.in-None.ensures.none));
+      cause = inr (sym (same_place later.found.place place (error_of (stores.Damaged later.found.place) (stores.Damaged place) is)), inl (past_in later bytes last c.replay.new.index.state all (subst (λ grows. journal_limit < later.gate + 1 + room_for (least_for grows (later.gate - (later.found.place + 5))) last.first) c.growth_told.ensures c.in-None.ensures.none)));
     }

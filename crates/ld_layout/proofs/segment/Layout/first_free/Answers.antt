@@ -5,8 +5,9 @@ use Rattle.ld_layout.specs.Layout.{base_length, new_segment, least_for, room_for
 use Rattle.ld_layout.specs.LaidOut.{laid_out}
 use Rattle.ld_layout.proofs.Segments.{segment_is, count_is, is_past_by, not_past}
 use Rattle.ld_layout.proofs.segment.Layout.first_free.Goals as goal
+use Rattle.ld_layout.specs.declared.segment.Growth.{Growth}
 
-least_is : (found : ℕ) (grows : Bool) (base size : ℕ) → found ≡ least_for grows base → base ≡ size → found ≡ least_for grows size
+least_is : (found : ℕ) (grows : Growth) (base size : ℕ) → found ≡ least_for grows base → base ≡ size → found ≡ least_for grows size
 least_is found grows base size is same = is ∙ ap (least_for grows) same
 
 pub returns-in-Some-clause-some : goal.returns-in-Some-clause-some

@@ -17,6 +17,10 @@ returns-in-Ok-clause-has g c =
     if_some (g.D.Disk.seen c.args.self.now.disk) _ (λ bytes. c.eq.result ≡ same (map (byte_at bytes) (numbers_from place.at place.len)) c.args.payload.now) c.in-Ok.ensures.payload
     (λ bytes read. c.eq.ensures ∙ ap (λ l. same l c.args.payload.now) read)
 
+pub returns-in-Ok-clause-compared : goal.returns-in-Ok-clause-compared
+unfolding same
+returns-in-Ok-clause-compared g c = record { bytes = c.in-Ok.read; long = c.in-Ok.ensures.long; same = c.eq.ensures }
+
 pub returns-in-Err-clause-ahead : goal.returns-in-Err-clause-ahead
 returns-in-Err-clause-ahead g c p h =
     let D = g.D.Disk in
