@@ -20,6 +20,7 @@ use std::marker::Model;
 /// that fault for good.
 #[derive(Drop)]
 pub struct Decoder {
+    alloc: Global,
     buffer: Vec<u8>,
     /// How many bytes of the buffer are taken.
     at: usize,
@@ -43,6 +44,7 @@ impl Decoder {
         ensures { result ≡ record { bytes = []; fault = None } }
     {
         Decoder {
+            alloc,
             buffer: Vec::new(alloc),
             at: 0,
             fault: None,
@@ -55,8 +57,9 @@ impl Decoder {
         ensures err { OnErr result (self.new ≡ self.old) }
     {
         if self.at > self.buffer.len() / 2 {
-            drop_front(&mut self.buffer, self.at);
+            self.buffer = joined(self.alloc, &self.buffer[self.at..], piece)?;
             self.at = 0;
+            return Ok(());
         }
         self.buffer.extend_from_slice(piece)?;
         Ok(())
@@ -106,12 +109,12 @@ fn found(fault: WireFault) -> Option<WireFault>
     }
 }
 
-/// Takes bytes away in front.
-fn drop_front(buffer: &mut Vec<u8>, count: usize)
-    requires { count ≤ length buffer.old.items }
-    ensures { buffer.new.items ≡ drop count buffer.old.items }
+/// The bytes of a piece behind those that are left.
+fn joined(alloc: Global, left: &[u8], piece: &[u8]) -> Result<Vec<u8>, NoMemory>
+    ensures { IfOk result (λ bytes. bytes.items ≡ left.now ++ piece.now) }
 {
-    let left = buffer.len() - count;
-    buffer.as_mut_slice().copy_within(count.., 0);
-    buffer.truncate(left);
+    let mut bytes = Vec::with_capacity(alloc, left.len().saturating_add(piece.len()))?;
+    bytes.extend_from_slice(left)?;
+    bytes.extend_from_slice(piece)?;
+    Ok(bytes)
 }
