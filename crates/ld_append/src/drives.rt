@@ -78,6 +78,7 @@ fn drive<G: Register, N: Nodes, P: Payloads, O: Sink>(
     ensures cause { IfErr result (IsDriveEnding (G.told acting.old.register → MayCrowd (G.may_hold acting.old.register) spec.now.log) (λ place. G.told acting.old.register → G.damaged acting.old.register place) (P.coming input.old) (P.faults input.old) (P.faults input.new) (O.faults out.old) (O.faults out.new) (Some (O.written out.old)) (Some (O.written out.new))) }
     ensures off { IfErr result (IsOffAs (N.off nodes.new)) }
     ensures ended { N.off nodes.old ≡ None → EndsOff (N.off nodes.new) result }
+    ensures output { IsLater (O.faults out.old) (O.faults out.new) (Some (O.written out.old)) (Some (O.written out.new)) }
     ensures refused { acting.old.end ≡ None → IfErr result (IsRefused (λ place. G.told acting.old.register → G.damaged acting.old.register place) (G.told acting.old.register → HoldsSome (G.holds acting.old.register) × LacksRoom (G.holds acting.new.register)) (G.faults acting.old.register) (G.faults acting.new.register)) }
 {
     let Ok(mut queues) = Queues::new(alloc, in_flight) else {
@@ -130,8 +131,9 @@ pub fn append<G: Register, N: Nodes, P: Payloads, O: Sink>(
     // visits of the configuration's nodes. A trim is made only where the sequencer has every append acknowledged and every epoch
     // before its own closed. The requests that the machine took are the first ones that came, in their order; they are all where
     // it is done, and where it comes to a line with a syntax error. The lines that were written are the sequencer's lines of
-    // those steps. A message to a node is lost only in a visit of it in which a call of the nodes failed or a node had ended, and
-    // an answer only where the sequencer doesn't take it. It never ends with `BadFrame`.
+    // those steps. In a visit messages and answers are taken each once, and in the order in which it waits. A message to a node
+    // is lost only in a visit of it in which a call of the nodes failed or a node had ended, and an answer only where the
+    // sequencer doesn't take it. It never ends with `BadFrame`.
     ensures appended { (s : State) (far : Far) → IsInBounds config.now → IsSpecOf config.now spec.now → IsUnset config.now s spec.now → N.tells nodes.old config.now far → Begins (HasNone name (G.tells register)) config.now s far
         → (N.silent nodes.new ≡ true) ⊎ IsAppended name spec.now.log (counted (N.faults nodes.old) (N.faults nodes.new) (N.endings nodes.old) (N.endings nodes.new)) (P.coming input.old) rounds (N.tells nodes.new) (G.tells result.1) config.now s (Some (O.written out.old)) (Some (O.written out.new)) result.0 }
     // Where a run of the written machine leads to such a state, that run goes on by these steps, and is safe as a whole.
@@ -146,6 +148,7 @@ pub fn append<G: Register, N: Nodes, P: Payloads, O: Sink>(
     // It ends with `BadFrame` only by the fault that the nodes tell, and where they tell one it ends by that.
     ensures off { IsOffAs (N.off nodes.new) result.0 }
     ensures ended { IsEndedOff (N.off nodes.old) (N.off nodes.new) result.0 }
+    ensures output { IsLater (O.faults out.old) (O.faults out.new) (Some (O.written out.old)) (Some (O.written out.new)) }
     // It ends with `Register` and `Failed` only where a call of the register failed. Where none failed and the register tells what
     // it holds, it ends with `Register` and `Damaged` only where that was damaged from that offset on, and with `Register` and
     // `Full` only where it wasn't, and where what it holds then leaves no room for an activation or a close.

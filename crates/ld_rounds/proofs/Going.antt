@@ -160,22 +160,22 @@ module _ (who : Driver) (broken : Type 0) (c : Config) (first : ℕ) (b : IsInBo
       then_by (inr v) = inr (goes_further P N M E F A B T U s qs rs old mid new r j k (went_as P L A T T s qs old mid l (λ f t. t) w) (goes_as N E K B U U w.moved.state rs mid new r o (λ f t. t) v))
 
   pub visiting_on : {R : Type 0} (y : ℕ) (L K : Type 0) (X Y : Type 0) (A B : Config → State → Type 0) (T U : Far → Type 0) (s : State) (qs rs : List (List Msg)) (old mid new : Option (List ℕ)) (r : Result R Ended) → (L → broken) → (K → broken) → (X → Y)
-      → ((w : Went who L (Visiting c y) A T c first s qs old mid) → Y ⊎ GoesOn who K (Visiting c y) (VisitEnd c y) B U c first w.moved.state rs mid new r) → X ⊎ Went who L (Visiting c y) A T c first s qs old mid → Y ⊎ GoesOn who broken (Visiting c y) (VisitEnd c y) B U c first s rs old new r
-  visiting_on {R} y L K X Y A B T U s qs rs old mid new r l o f g h = then_on {R = R} (Visiting c y) (Visiting c y) (Visiting c y) (VisitEnd c y) (VisitEnd c y) L K X Y A B T U s qs rs old mid new r (visiting_joins c y) (each_end r (λ e. visiting_joins c y)) l o f g h
+      → ((w : Went who L (Visiting c first y) A T c first s qs old mid) → Y ⊎ GoesOn who K (Visiting c first y) (VisitEnd c first y) B U c first w.moved.state rs mid new r) → X ⊎ Went who L (Visiting c first y) A T c first s qs old mid → Y ⊎ GoesOn who broken (Visiting c first y) (VisitEnd c first y) B U c first s rs old new r
+  visiting_on {R} y L K X Y A B T U s qs rs old mid new r l o f g h = then_on {R = R} (Visiting c first y) (Visiting c first y) (Visiting c first y) (VisitEnd c first y) (VisitEnd c first y) L K X Y A B T U s qs rs old mid new r (visiting_joins c first y) (each_end r (λ e. visiting_joins c first y)) l o f g h
 
   -- the steps of a visit, with what they lose
-  visiting_so : (y : ℕ) (counts : CallCounts) (s : State) (es : List Event) → (broken → HasBroken counts) → LoseBy broken c s es → Visiting c y s es → IsVisiting c y counts s es
+  visiting_so : (y : ℕ) (counts : CallCounts) (s : State) (es : List Event) → (broken → HasBroken counts) → LoseBy broken c s es → Visiting c first y s es → IsVisiting c first y counts s es
   visiting_so y counts s es l few q = record { steps = q; few = lose_if c broken (HasBroken counts) s es l few }
 
   -- such steps that leave nothing that waits for the node
-  pub went_visit : (y : ℕ) (counts : CallCounts) (A : Config → State → Type 0) (T : Far → Type 0) (s : State) (qs : List (List Msg)) (old new : Option (List ℕ)) → (broken → HasBroken counts) → queue_of qs y ≡ [] → Went who broken (Visiting c y) A (AllTaken T) c first s qs old new → Went who broken (IsVisit c first y counts) A (AllTaken T) c first s qs old new
+  pub went_visit : (y : ℕ) (counts : CallCounts) (A : Config → State → Type 0) (T : Far → Type 0) (s : State) (qs : List (List Msg)) (old new : Option (List ℕ)) → (broken → HasBroken counts) → queue_of qs y ≡ [] → Went who broken (Visiting c first y) A (AllTaken T) c first s qs old new → Went who broken (IsVisit c first y counts) A (AllTaken T) c first s qs old new
   went_visit y counts A T s qs old new l z w = record {
     far = w.far;
     lines = w.lines;
     told = w.told;
     moved = record {
       state = w.moved.state;
-      goes = goes_few who broken c (Visiting c y) (IsVisit c first y counts) s w.moved.state w.lines
+      goes = goes_few who broken c (Visiting c first y) (IsVisit c first y counts) s w.moved.state w.lines
           (λ es e few q. record {
             visiting = visiting_so y counts s es l few q;
             queues = qs;
@@ -188,28 +188,28 @@ module _ (who : Driver) (broken : Type 0) (c : Config) (first : ℕ) (b : IsInBo
   }
 
   -- a visit in part
-  visiting_stopped : (y : ℕ) (counts : CallCounts) (s : State) (old new : Option (List ℕ)) → (broken → HasBroken counts) → Stopped who broken (Visiting c y) c s old new → Stopped who broken (IsVisiting c y counts) c s old new
+  visiting_stopped : (y : ℕ) (counts : CallCounts) (s : State) (old new : Option (List ℕ)) → (broken → HasBroken counts) → Stopped who broken (Visiting c first y) c s old new → Stopped who broken (IsVisiting c first y counts) c s old new
   visiting_stopped y counts s old new l w = record {
     state = w.state;
     lines = w.lines;
-    goes = goes_few who broken c (Visiting c y) (IsVisiting c y counts) s w.state w.lines (λ es e few q. visiting_so y counts s es l few q) w.goes;
+    goes = goes_few who broken c (Visiting c first y) (IsVisiting c first y counts) s w.state w.lines (λ es e few q. visiting_so y counts s es l few q) w.goes;
     written = w.written;
   }
 
-  visiting_went : (y : ℕ) (counts : CallCounts) (A : Config → State → Type 0) (T : Far → Type 0) (s : State) (qs : List (List Msg)) (old new : Option (List ℕ)) → (broken → HasBroken counts) → Went who broken (Visiting c y) A T c first s qs old new → Went who broken (IsVisiting c y counts) A T c first s qs old new
+  visiting_went : (y : ℕ) (counts : CallCounts) (A : Config → State → Type 0) (T : Far → Type 0) (s : State) (qs : List (List Msg)) (old new : Option (List ℕ)) → (broken → HasBroken counts) → Went who broken (Visiting c first y) A T c first s qs old new → Went who broken (IsVisiting c first y counts) A T c first s qs old new
   visiting_went y counts A T s qs old new l w = record {
     far = w.far;
     lines = w.lines;
     told = w.told;
     moved = record {
       state = w.moved.state;
-      goes = goes_few who broken c (Visiting c y) (IsVisiting c y counts) s w.moved.state w.lines (λ es e few q. visiting_so y counts s es l few q) w.moved.goes;
+      goes = goes_few who broken c (Visiting c first y) (IsVisiting c first y counts) s w.moved.state w.lines (λ es e few q. visiting_so y counts s es l few q) w.moved.goes;
       holds = w.moved.holds;
     };
     written = w.written;
   }
 
-  pub visit_ends : (y : ℕ) (counts : CallCounts) (A : Config → State → Type 0) (T : Far → Type 0) (s : State) (qs : List (List Msg)) (old new : Option (List ℕ)) (e : Ended) → (broken → HasBroken counts) → Stops who broken (VisitEnd c y) A T c first s qs old new e → Stops who broken (λ f. IsVisiting c y counts) A T c first s qs old new e
+  pub visit_ends : (y : ℕ) (counts : CallCounts) (A : Config → State → Type 0) (T : Far → Type 0) (s : State) (qs : List (List Msg)) (old new : Option (List ℕ)) (e : Ended) → (broken → HasBroken counts) → Stops who broken (VisitEnd c first y) A T c first s qs old new e → Stops who broken (λ f. IsVisiting c first y counts) A T c first s qs old new e
   visit_ends y counts A T s qs old new e l w = cut_by e (visiting_stopped y counts s old new l) (visiting_went y counts A T s qs old new l) w
 
   -- ---- what an actor did is told ----

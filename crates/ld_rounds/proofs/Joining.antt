@@ -17,9 +17,12 @@ use Rattle.ld_rounds.specs.declared.request.Request.{Request}
 use Rattle.ld_rounds.specs.declared.request.Request.TheVariants as asks
 use Rattle.ld_rounds.specs.Input.{Input, all_taken}
 use Rattle.ld_rounds.specs.Feeding.{upcoming, NoneComes, WasOver, NextIs, IsInputEnding}
+use Rattle.ld_rounds.specs.News.{is_answer}
 use Rattle.ld_rounds.specs.Telling.{is_of}
+use Rattle.ld_rounds.specs.Turns.{IsFirst, IsTurn}
 use Rattle.ld_rounds.specs.Drives.{Turned, AreLater, CallCounts, counted, HasBroken}
 use Rattle.ld_rounds.proofs.Counting.{counts_here, later_since, broken_since}
+use Rattle.ld_rounds.proofs.Turns.{heard_turn, of_node, turns-append, ticks_turn}
 use Rattle.ld_rounds.specs.Requests.{request_event, has_to_wait, is_waiting, settled_at, IsRequestBy}
 use Rattle.ld_rounds.specs.Rounds.{Splits, Chains, IsDelivered, waiting_by, waiting_in, waiting, IsTickBehind, IsReminded, IsCalm, AreCalm, Calm, Concerns, AreAbout, Visiting, IsLossBy, LosesBy, LoseBy, IsVisiting, IsVisit, AreVisits, ArePartVisits, IsPolled, IsReadRound, IsReadPart, AreReadRounds, IsRetry, MayRetry, IsAppendRound, AreAppendRounds, AreRequests, IsAsking, IsDry, tells_full, taken_by, taken_of, HasFed, Feeds, HasFedSome, FeedsUntil, Both, FindRoom, Fills, finds_full, AreFilling, IsPrepared, IsAppendPart, finds_final}
 
@@ -96,16 +99,16 @@ module _ (c : Config) where
   about-append y s [] fs a b = b
   about-append y s (e ∷ es) fs a b = (a.0, about-append y (step c s e).state es fs a.1 b)
 
-  pub visiting_joins : (y : ℕ) → Joins c (Visiting c y) (Visiting c y) (Visiting c y)
-  visiting_joins y s es fs a b = (calm_joins s es fs a.0 b.0, about-append y s es fs a.1 b.1)
+  pub visiting_joins : (first y : ℕ) → Joins c (Visiting c first y) (Visiting c first y) (Visiting c first y)
+  visiting_joins first y s es fs a b = (calm_joins s es fs a.0 b.0, about-append y s es fs a.1 b.1, turns-append c first y s es fs a.2 b.2)
 
   -- the message of a place is lost
-  pub lost_visits : (y i : ℕ) (m : Msg) (s : State) → message s.network i ≡ Some m → Concerns y (Some m) → Visiting c y s (events.Lose i ∷ [])
-  lost_visits y i m s there of = ((tt, tt), (subst (λ (o : Option Msg). Concerns y o) (sym there) of, tt))
+  pub lost_visits : (first y i : ℕ) (m : Msg) (s : State) → message s.network i ≡ Some m → Concerns y (Some m) → IsTurn first y s.network i (Some m) → Visiting c first y s (events.Lose i ∷ [])
+  lost_visits first y i m s there of turn = ((tt, tt), (subst (λ (o : Option Msg). Concerns y o) (sym there) of, tt), (subst (λ (o : Option Msg). IsTurn first y s.network i o) (sym there) turn, tt))
 
   -- it is delivered
-  pub sent_visits : (y i : ℕ) (m : Msg) (s : State) → message s.network i ≡ Some m → Concerns y (Some m) → Visiting c y s (events.Deliver i ∷ [])
-  sent_visits y i m s there of = ((tt, tt), (subst (λ (o : Option Msg). Concerns y o) (sym there) of, tt))
+  pub sent_visits : (first y i : ℕ) (m : Msg) (s : State) → message s.network i ≡ Some m → Concerns y (Some m) → IsTurn first y s.network i (Some m) → Visiting c first y s (events.Deliver i ∷ [])
+  sent_visits first y i m s there of turn = ((tt, tt), (subst (λ (o : Option Msg). Concerns y o) (sym there) of, tt), (subst (λ (o : Option Msg). IsTurn first y s.network i o) (sym there) turn, tt))
 
   -- ticks of the node that waits
   ticks_calm : (y : ℕ) (m : Msg) (s : State) (es : List Event) → IsReminded y m s es → AreCalm c (waiting_by m.from m.body) s es
@@ -118,20 +121,23 @@ module _ (c : Config) where
   ticks_about y m s (events.Tick n l ∷ es) h = (h.0.0, ticks_about y m (step c s (events.Tick n l)).state es h.1)
   ticks_about y m s (e ∷ es) h = absurd h.0
 
-  delivered_calm : (y i : ℕ) (m : Msg) (s : State) (fs : List Event) → is_of y m.from ≡ true → message s.network i ≡ Some m → IsReminded y m (step c s (events.Deliver i)).state fs → Visiting c y s (events.Deliver i ∷ fs)
-  delivered_calm y i m s fs of there h =
-      let t : State = (step c s (events.Deliver i)).state in
-      ((tt, subst (λ (o : Option Msg). AreCalm c (waiting_in o) t fs) (sym there) (ticks_calm y m t fs h)), (subst (λ (o : Option Msg). Concerns y o) (sym there) (inr of), ticks_about y m t fs h))
+  delivered_calm : (first y i : ℕ) (m : Msg) (s : State) (fs : List Event) → is_of y m.from ≡ true → message s.network i ≡ Some m → IsFirst is_answer first s.network i → IsReminded y m (step c s (events.Deliver i)).state fs → Visiting c first y s (events.Deliver i ∷ fs)
+  delivered_calm first y i m s fs of there foremost h =
+      let t : State = (step c s (events.Deliver i)).state in (
+        (tt, subst (λ (o : Option Msg). AreCalm c (waiting_in o) t fs) (sym there) (ticks_calm y m t fs h)),
+        (subst (λ (o : Option Msg). Concerns y o) (sym there) (inr of), ticks_about y m t fs h),
+        (subst (λ (o : Option Msg). IsTurn first y s.network i o) (sym there) (heard_turn first y s.network m (of_node y m.from of) i foremost), ticks_turn c first y m t fs h),
+      )
 
   -- an answer of the node is delivered, and the node is ticked
-  pub reminded_joins : (y : ℕ) (m : Msg) → is_of y m.from ≡ true → Joins c (IsDelivered m) (IsReminded y m) (Visiting c y)
+  pub reminded_joins : (first y : ℕ) (m : Msg) → is_of y m.from ≡ true → Joins c (IsDelivered first m) (IsReminded y m) (Visiting c first y)
   unfolding state_after
-  reminded_joins y m of s es fs d h =
+  reminded_joins first y m of s es fs d h =
       let here : IsReminded y m (step c s (events.Deliver d.place)).state fs = h in
-      subst (λ (l : List Event). Visiting c y s (l ++ fs)) (sym d.one) (delivered_calm y d.place m s fs of d.there here)
+      subst (λ (l : List Event). Visiting c first y s (l ++ fs)) (sym d.one) (delivered_calm first y d.place m s fs of d.there d.foremost here)
 
-  pub delivered_visits : (y : ℕ) (m : Msg) → is_of y m.from ≡ true → (s : State) (es : List Event) → IsDelivered m s es → Visiting c y s es
-  delivered_visits y m of s es d = subst (λ (l : List Event). Visiting c y s l) (sym d.one) (delivered_calm y d.place m s [] of d.there tt)
+  pub delivered_visits : (first y : ℕ) (m : Msg) → is_of y m.from ≡ true → (s : State) (es : List Event) → IsDelivered first m s es → Visiting c first y s es
+  delivered_visits first y m of s es d = subst (λ (l : List Event). Visiting c first y s l) (sym d.one) (delivered_calm first y d.place m s [] of d.there d.foremost tt)
 
   -- more of them
   pub reminds_join : (y : ℕ) (m : Msg) → Joins c (IsReminded y m) (IsReminded y m) (IsReminded y m)
@@ -182,11 +188,11 @@ module _ (c : Config) where
       event_if (events.Lose i) x = loss_if (message s.network i) x
       event_if x y = tt
 
-  pub visiting_since : (y f g h e d k : ℕ) (s : State) (es : List Event) → AreLater f g e d → IsVisiting c y (counted g h d k) s es → IsVisiting c y (counted f h e k) s es
-  visiting_since y f g h e d k s es l v = record { steps = v.steps; few = lose_if (HasBroken (counted g h d k)) (HasBroken (counted f h e k)) s es (broken_since f g h e d k l) v.few }
+  pub visiting_since : (first y f g h e d k : ℕ) (s : State) (es : List Event) → AreLater f g e d → IsVisiting c first y (counted g h d k) s es → IsVisiting c first y (counted f h e k) s es
+  visiting_since first y f g h e d k s es l v = record { steps = v.steps; few = lose_if (HasBroken (counted g h d k)) (HasBroken (counted f h e k)) s es (broken_since f g h e d k l) v.few }
 
   visit_since : (first y f g h e d k : ℕ) (s : State) (es : List Event) → AreLater f g e d → IsVisit c first y (counted g h d k) s es → IsVisit c first y (counted f h e k) s es
-  visit_since first y f g h e d k s es l v = record { visiting = visiting_since y f g h e d k s es l v.visiting; queues = v.queues; news = v.news; emptied = v.emptied }
+  visit_since first y f g h e d k s es l v = record { visiting = visiting_since first y f g h e d k s es l v.visiting; queues = v.queues; news = v.news; emptied = v.emptied }
 
   pub visits_calm : (first : ℕ) (ys : List ℕ) (counts : CallCounts) (s : State) (es : List Event) → AreVisits c first ys counts s es → Calm c s es
   visits_calm first [] counts s es h = subst (λ (l : List Event). Calm c s l) (sym h) tt
@@ -204,7 +210,7 @@ module _ (c : Config) where
   -- none is visited yet
   pub none_visited : (first : ℕ) (ys : List ℕ) (counts : CallCounts) (s : State) → ArePartVisits c first ys counts s []
   none_visited first [] counts s = refl
-  none_visited first (y ∷ ys) counts s = inl (record { steps = (tt, tt); few = tt })
+  none_visited first (y ∷ ys) counts s = inl (record { steps = (tt, tt, tt); few = tt })
 
   -- all are
   pub all_visited : (first : ℕ) (ys : List ℕ) (counts : CallCounts) (s : State) (es : List Event) → AreVisits c first ys counts s es → ArePartVisits c first ys counts s es
@@ -239,16 +245,16 @@ module _ (c : Config) where
   }
 
   -- and a part of one more
-  pub visits_part : (first : ℕ) (ys zs : List ℕ) (y f g h e d k : ℕ) → AreLater f g e d → AreLater g h d k → Joins c (AreVisits c first ys (counted f g e d)) (IsVisiting c y (counted g h d k)) (ArePartVisits c first (ys ++ y ∷ zs) (counted f h e k))
+  pub visits_part : (first : ℕ) (ys zs : List ℕ) (y f g h e d k : ℕ) → AreLater f g e d → AreLater g h d k → Joins c (AreVisits c first ys (counted f g e d)) (IsVisiting c first y (counted g h d k)) (ArePartVisits c first (ys ++ y ∷ zs) (counted f h e k))
   visits_part first [] zs y f g h e d k l m s es fs none v =
-      let here = subst (λ (x : State). IsVisiting c y (counted g h d k) x fs) (ap (state_after c s) none ∙ after_none c s) v in
-      inl (subst (λ (x : List Event). IsVisiting c y (counted f h e k) s (x ++ fs)) (sym none) (visiting_since y f g h e d k s fs l here))
+      let here = subst (λ (x : State). IsVisiting c first y (counted g h d k) x fs) (ap (state_after c s) none ∙ after_none c s) v in
+      inl (subst (λ (x : List Event). IsVisiting c first y (counted f h e k) s (x ++ fs)) (sym none) (visiting_since first y f g h e d k s fs l here))
   visits_part first (x ∷ xs) zs y f g h e d k l m s es fs p v = inr (record {
     faults = p.faults;
     endings = p.endings;
     since = p.since;
     until = later_since p.faults g h p.endings d k p.until m;
-    parts = splits_more (IsVisit c first x (counted f p.faults e p.endings)) (AreVisits c first xs (counted p.faults g p.endings d)) (IsVisiting c y (counted g h d k)) (ArePartVisits c first (xs ++ y ∷ zs) (counted p.faults h p.endings k))
+    parts = splits_more (IsVisit c first x (counted f p.faults e p.endings)) (AreVisits c first xs (counted p.faults g p.endings d)) (IsVisiting c first y (counted g h d k)) (ArePartVisits c first (xs ++ y ∷ zs) (counted p.faults h p.endings k))
         (visits_part first xs zs y p.faults g h p.endings d k p.until m) s es fs p.parts v;
   })
 

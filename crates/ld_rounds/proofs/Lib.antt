@@ -12,5 +12,6 @@ pub mod Polling
 pub mod Queueing
 pub mod Reminding
 pub mod Steps
+pub mod Turns
 pub mod Visiting
 pub mod Writing

@@ -155,41 +155,41 @@ unoff_on (Some fault) (Err x) on h e =
 -- ---- the drive goes on ----
 
 module _ (who : Driver) (broken : Type 0) (c : Config) (first : ℕ) (y : ℕ) (A : Config → State → Type 0) (s : State) (qs : List (List Msg)) (old new : Option (List ℕ)) where
-  on_whole : (U : Far → Type 0) (e : Ended) → Stops who broken (VisitEnd c y) A U c first s qs old new e → GoesOn {T = Bool} who broken (Visiting c y) (VisitEnd c y) A U c first s qs old new (if is_cut e then Err e else Ok true)
+  on_whole : (U : Far → Type 0) (e : Ended) → Stops who broken (VisitEnd c first y) A U c first s qs old new e → GoesOn {T = Bool} who broken (Visiting c first y) (VisitEnd c first y) A U c first s qs old new (if is_cut e then Err e else Ok true)
   on_whole U ends.NoMemory w = w
   on_whole U ends.Write w = w
   on_whole U (ends.BadFrame fault) w = w
   on_whole U e w = w
 
-  whole_on : (U : Far → Type 0) (r : Result Bool Ended) → GoesOn who broken (Visiting c y) (VisitEnd c y) A U c first s qs old new r → GoesOn who broken (Visiting c y) (VisitEnd c y) A U c first s qs old new (listens_on r)
+  whole_on : (U : Far → Type 0) (r : Result Bool Ended) → GoesOn who broken (Visiting c first y) (VisitEnd c first y) A U c first s qs old new r → GoesOn who broken (Visiting c first y) (VisitEnd c first y) A U c first s qs old new (listens_on r)
   whole_on U (Ok on) w = w
   whole_on U (Err e) w = on_whole U e w
 
   -- where the actor has ended its drive it goes on first
-  pub listened : (X : Type 0) (U : Far → Type 0) (r z : Result Bool Ended) → listens_on r ≡ z → X ⊎ GoesOn who broken (Visiting c y) (VisitEnd c y) A U c first s qs old new r → X ⊎ GoesOn who broken (Visiting c y) (VisitEnd c y) A U c first s qs old new z
+  pub listened : (X : Type 0) (U : Far → Type 0) (r z : Result Bool Ended) → listens_on r ≡ z → X ⊎ GoesOn who broken (Visiting c first y) (VisitEnd c first y) A U c first s qs old new r → X ⊎ GoesOn who broken (Visiting c first y) (VisitEnd c first y) A U c first s qs old new z
   listened X U r z h (inl x) = inl x
-  listened X U r z h (inr w) = inr (subst (λ (v : Result Bool Ended). GoesOn who broken (Visiting c y) (VisitEnd c y) A U c first s qs old new v) h (whole_on U r w))
+  listened X U r z h (inr w) = inr (subst (λ (v : Result Bool Ended). GoesOn who broken (Visiting c first y) (VisitEnd c first y) A U c first s qs old new v) h (whole_on U r w))
 
   -- it ends at once
-  pub cut_goes : (R : Type 0) (U V : Far → Type 0) (e : Ended) → is_cut e ≡ true → Stops who broken (VisitEnd c y) A U c first s qs old new e → GoesOn {T = R} who broken (Visiting c y) (VisitEnd c y) A V c first s qs old new (Err e)
+  pub cut_goes : (R : Type 0) (U V : Far → Type 0) (e : Ended) → is_cut e ≡ true → Stops who broken (VisitEnd c first y) A U c first s qs old new e → GoesOn {T = R} who broken (Visiting c first y) (VisitEnd c first y) A V c first s qs old new (Err e)
   cut_goes R U V ends.NoMemory k w = w
   cut_goes R U V ends.Write k w = w
   cut_goes R U V (ends.BadFrame fault) k w = w
   cut_goes R U V e k w = absurd cc
 
-  pub listened_cut : (X : Type 0) (U V : Far → Type 0) (r : Result Bool Ended) (e : Ended) → listens_on r ≡ Err e → is_cut e ≡ true → X ⊎ GoesOn who broken (Visiting c y) (VisitEnd c y) A U c first s qs old new r → X ⊎ GoesOn {T = Bool} who broken (Visiting c y) (VisitEnd c y) A V c first s qs old new (Err e)
+  pub listened_cut : (X : Type 0) (U V : Far → Type 0) (r : Result Bool Ended) (e : Ended) → listens_on r ≡ Err e → is_cut e ≡ true → X ⊎ GoesOn who broken (Visiting c first y) (VisitEnd c first y) A U c first s qs old new r → X ⊎ GoesOn {T = Bool} who broken (Visiting c first y) (VisitEnd c first y) A V c first s qs old new (Err e)
   listened_cut X U V r e h k g = elim (listened X U r (Err e) h g) [
     | inl x ↦ inl x
     | inr w ↦ inr (cut_goes Bool U V e k w)
   ]
 
   -- it ends once all is taken
-  whole_goes : (U : Far → Type 0) (e : Ended) → is_cut e ≡ false → Went who broken (Visiting c y) A U c first s qs old new → Stops who broken (VisitEnd c y) A U c first s qs old new e
+  whole_goes : (U : Far → Type 0) (e : Ended) → is_cut e ≡ false → Went who broken (Visiting c first y) A U c first s qs old new → Stops who broken (VisitEnd c first y) A U c first s qs old new e
   whole_goes U ends.NoMemory k w = absurd cc
   whole_goes U ends.Write k w = absurd cc
   whole_goes U (ends.BadFrame fault) k w = absurd cc
   whole_goes U e k w = w
 
-  pub ended_goes : (U : Far → Type 0) (from till : Option (List ℕ)) (o : Option Ended) (on : Bool) → IfSome o (HasEnded from till) → Went who broken (Visiting c y) A U c first s qs old new → GoesOn who broken (Visiting c y) (VisitEnd c y) A U c first s qs old new (ends_by o on)
+  pub ended_goes : (U : Far → Type 0) (from till : Option (List ℕ)) (o : Option Ended) (on : Bool) → IfSome o (HasEnded from till) → Went who broken (Visiting c first y) A U c first s qs old new → GoesOn who broken (Visiting c first y) (VisitEnd c first y) A U c first s qs old new (ends_by o on)
   ended_goes U from till None on h w = w
   ended_goes U from till (Some e) on h w = whole_goes U e h.0 w

@@ -1,10 +1,10 @@
 -- Messages that are new, as they are sent, taken and lost.
-use Rattle.std.proofs.Common.{◌≡◌, ◌≢◌, ℕ, suc, ◌+◌, ◌-◌, ◌<◌, ◌≤◌, Bool, true, false, not, ◌==◌, ◌&&◌, ◌||◌, List, [], ◌∷◌, ◌++◌, filter, length, set, Some, None, refl, ap, sym, ◌∙◌, subst, inl, inr, arith, nat_le, slice_get, if◌then◌else◌, replicate, zero}
+use Rattle.std.proofs.Common.{◌≡◌, ◌≢◌, ℕ, suc, ◌+◌, ◌-◌, ◌<◌, ◌≤◌, Bool, true, false, not, ◌==◌, ◌&&◌, ◌||◌, List, [], ◌∷◌, ◌++◌, filter, length, set, Option, Some, None, refl, ap, sym, ◌∙◌, subst, inl, inr, arith, nat_le, slice_get, if◌then◌else◌, replicate, zero}
 use Rattle.std.proofs.lemmas.List.{append-nil, append_assoc, get_or-set_same, get_or-set_other, length-set}
 use Rattle.std.proofs.lemmas.List.Elements.{filter-append}
 use Rattle.std.proofs.lemmas.Bool.{eq-eqb, eqb-true, ne_eqb, le-leb, lt-ltb, cases_eq}
 use Rattle.std.specs.List.{AllByRecursion}
-use Rattle.ld_table.specs.Words.{any_of}
+use Rattle.ld_table.specs.Words.{any_of, is_in}
 use Rattle.ld_ids.specs.Id.{IsNode}
 use Rattle.ld_msg.specs.declared.msg.Who.{Who}
 use Rattle.ld_msg.specs.declared.msg.Who.TheVariants as whos
@@ -12,17 +12,20 @@ use Rattle.ld_msg.specs.declared.msg.Msg.{Msg}
 use Rattle.ld_msg.specs.Network.{Network, message, send, send_all, mark}
 use Rattle.ld_bounds.specs.Sound.{is_node}
 use Rattle.ld_rounds.specs.Queued.{queue_of, no_queues, put_to, put_one, put_all, waits}
-use Rattle.ld_rounds.specs.News.{goes_to, waits_for, is_answer, chosen, places_of, without, RiseBelow, AreAt, AreNews, waits_in, one_waits, some_wait}
+use Rattle.ld_rounds.specs.News.{goes_to, waits_for, is_answer, chosen, places_of, without, RiseBelow, AreAt, AreNews, such_in, one_waits, some_wait}
+use Rattle.ld_rounds.specs.Turns.{IsFirst}
 
 -- ---- taken ----
 
--- the first message that is so, of a place, and those that stay
+-- the first message that is so, of a place before which none is, and those that stay
 pub record Picked (low high : ℕ) (p : Msg → Bool) (es : List (ℕ × Msg)) (m : Msg) (rest : List Msg) : Type 0 where
   pub place : ℕ
   pub above : low ≤ place
   pub below : place < high
   pub there : (w : Network) → AreAt w es → message w place ≡ Some m
   pub is : p m ≡ true
+  pub stands : is_in place (places_of es) ≡ true
+  pub least : (w : Network) → AreAt w es → (j : ℕ) → is_in j (places_of es) ≡ true → j < place → such_in p (message w j) ≡ false
   pub chosen_are : chosen p (without place es) ≡ rest
   pub others : (q : Msg → Bool) → q m ≡ false → chosen q (without place es) ≡ chosen q es
 
@@ -36,6 +39,26 @@ without_below i k high [] h r = refl
 without_below i k high (e ∷ es) h r =
     rw (ne_eqb i e.0 (omega (arith, h, r.0))) (ap (λ l. e ∷ l) (without_below i (e.0 + 1) high es (omega (arith, h, r.0)) r.2))
 
+none_below : (j k high : ℕ) (es : List (ℕ × Msg)) → j < k → RiseBelow k high es → is_in j (places_of es) ≡ false
+none_below j k high [] h r = refl
+none_below j k high (e ∷ es) h r = rw (ne_eqb e.0 j (omega (arith, h, r.0))) (none_below j (e.0 + 1) high es (omega (arith, h, r.0)) r.2)
+
+-- none before the first one
+none_before : (j high : ℕ) (e : ℕ × Msg) (es : List (ℕ × Msg)) (p : Msg → Bool) (o : Option Msg) → j < e.0 → RiseBelow (e.0 + 1) high es → is_in j (places_of (e ∷ es)) ≡ true → such_in p o ≡ false
+none_before j high e es p o l r i =
+    let none : is_in j (places_of (e ∷ es)) ≡ false = rw (ne_eqb e.0 j (omega (arith, l))) (none_below j (e.0 + 1) high es (omega (arith, l)) r) in
+    let wrong : true ≡ false = sym i ∙ none in
+    absurd cc
+
+-- the first one isn't so, and of the others none that is before
+least_by : (p : Msg → Bool) (w : Network) (n j : ℕ) (m : Msg) (b x : Bool) → (n == j) ≡ b → (b || x) ≡ true → message w n ≡ Some m → p m ≡ false → (x ≡ true → such_in p (message w j) ≡ false) → such_in p (message w j) ≡ false
+least_by p w n j m true x q i there h more = subst (λ (k : ℕ). such_in p (message w k) ≡ false) (eqb-true n j q) (ap (such_in p) there ∙ h)
+least_by p w n j m false x q i there h more = more i
+
+or_right : (a b : Bool) → b ≡ true → (a || b) ≡ true
+or_right true b h = refl
+or_right false b h = h
+
 picked_here : (low high : ℕ) (p : Msg → Bool) (e : ℕ × Msg) (es : List (ℕ × Msg)) → RiseBelow low high (e ∷ es) → p e.1 ≡ true → Picked low high p (e ∷ es) e.1 (chosen p es)
 picked_here low high p e es r h =
     let w : without e.0 (e ∷ es) ≡ es = rw (eq-eqb e.0 e.0 refl) (without_below e.0 (e.0 + 1) high es (omega arith) r.2) in
@@ -45,6 +68,8 @@ picked_here low high p e es r h =
       below = r.1;
       there = λ n at. at.0;
       is = h;
+      stands = ap (λ b. b || is_in e.0 (places_of es)) (eq-eqb e.0 e.0 refl);
+      least = λ n at j i l. none_before j high e es p (message n j) l r.2 i;
       chosen_are = ap (chosen p) w;
       others = λ q f. ap (chosen q) w ∙ sym (ap (λ (b : Bool). if b then e.1 ∷ chosen q es else chosen q es) f);
     }
@@ -59,6 +84,8 @@ picked_later low high p e es m rest r h k =
       below = k.below;
       there = λ n at. k.there n at.1;
       is = k.is;
+      stands = or_right (e.0 == k.place) (is_in k.place (places_of es)) k.stands;
+      least = λ n at j i l. least_by p n e.0 j e.1 (e.0 == j) (is_in j (places_of es)) refl i at.0 h (λ more. k.least n at.1 j more l);
       chosen_are = ap (chosen p) w ∙ (ap (λ (b : Bool). if b then e.1 ∷ chosen p (without k.place es) else chosen p (without k.place es)) h ∙ k.chosen_are);
       others = λ q f. ap (chosen q) w ∙ ap (λ (l : List Msg). if q e.1 then e.1 ∷ l else l) (k.others q f);
     }
@@ -137,11 +164,18 @@ filter_swap p q (x ∷ xs) = swap_by p q x (filter q xs) (filter p xs) (p x) (q 
 marked_fresh : (first i : ℕ) (w : Network) (es : List (ℕ × Msg)) → filter (λ j. nat_le first j) w.fresh ≡ places_of es → filter (λ j. nat_le first j) (mark w i).fresh ≡ places_of (without i es)
 marked_fresh first i w es h = filter_swap (λ j. nat_le first j) (λ j. not (i == j)) w.fresh ∙ (ap (filter (λ j. not (i == j))) h ∙ sym (places-without i es))
 
--- a message is taken out of the network, and what is still new is this
-pub record Taken (first : ℕ) (w : Network) (m : Msg) (queues : List (List Msg)) (answers : List Msg) : Type 0 where
+-- the next message that is so is taken out of the network, and what is still new is this
+pub record Taken (p : Msg → Bool) (first : ℕ) (w : Network) (m : Msg) (queues : List (List Msg)) (answers : List Msg) : Type 0 where
   pub place : ℕ
   pub there : message w place ≡ Some m
+  pub foremost : IsFirst p first w place
   pub news : AreNews first (mark w place) queues answers
+
+foremost_of : (first : ℕ) (w : Network) (qs : List (List Msg)) (ans : List Msg) (p : Msg → Bool) (m : Msg) (rest : List Msg) → (n : AreNews first w qs ans) → (k : Picked first w.count p n.news m rest) → IsFirst p first w k.place
+foremost_of first w qs ans p m rest n k = record {
+  fresh = ap (is_in k.place) n.fresh ∙ k.stands;
+  least = λ j i l. k.least w n.there j (sym (ap (is_in j) n.fresh) ∙ i) l;
+}
 
 waits_there : (y : ℕ) (b : Bool) (t : Who) → (not b && goes_to y t) ≡ true → b ≡ false
 waits_there y true t h = absurd cc
@@ -164,12 +198,13 @@ waits_is y m h = waits_by y (is_node m.from) m.to h
 
 -- the first message that waits for a node
 pub take_first : (first : ℕ) (w : Network) (qs : List (List Msg)) (ans : List Msg) (y : ℕ) (m : Msg) (rest : List Msg) → AreNews first w qs ans → IsNode y → length qs ≡ 17 → queue_of qs y ≡ m ∷ rest
-    → Taken first w m (set qs y rest) ans
+    → Taken (waits_for y) first w m (set qs y rest) ans
 take_first first w qs ans y m rest n is l q =
     let k = pick first w.count (waits_for y) n.news m rest n.rise (n.queued y is ∙ q) in
     record {
       place = k.place;
       there = k.there w n.there;
+      foremost = foremost_of first w qs ans (waits_for y) m rest n k;
       news = record {
         news = without k.place n.news;
         from = n.from;
@@ -189,12 +224,13 @@ answer_waits z true t h = refl
 answer_waits z false t h = absurd cc
 
 -- the first answer
-pub take_answer : (first : ℕ) (w : Network) (qs : List (List Msg)) (ans : List Msg) (m : Msg) (rest : List Msg) → AreNews first w qs ans → ans ≡ m ∷ rest → Taken first w m qs rest
+pub take_answer : (first : ℕ) (w : Network) (qs : List (List Msg)) (ans : List Msg) (m : Msg) (rest : List Msg) → AreNews first w qs ans → ans ≡ m ∷ rest → Taken is_answer first w m qs rest
 take_answer first w qs ans m rest n e =
     let k = pick first w.count is_answer n.news m rest n.rise (n.answers_are ∙ e) in
     record {
       place = k.place;
       there = k.there w n.there;
+      foremost = foremost_of first w qs ans is_answer m rest n k;
       news = record {
         news = without k.place n.news;
         from = n.from;
@@ -342,14 +378,14 @@ waits_by_one : (b : Bool) (m : Msg) (ms : List Msg) (a : Bool) → a ≡ waits m
 waits_by_one true m ms a h = refl
 waits_by_one false m ms a h = h
 
-any_there : (w : Network) (y : ℕ) (es : List (ℕ × Msg)) → AreAt w es → any_of (λ i. waits_in y (message w i)) (places_of es) ≡ waits (chosen (waits_for y) es)
+any_there : (w : Network) (y : ℕ) (es : List (ℕ × Msg)) → AreAt w es → any_of (λ i. such_in (waits_for y) (message w i)) (places_of es) ≡ waits (chosen (waits_for y) es)
 any_there w y [] a = refl
 any_there w y (e ∷ es) a =
-    ap (λ o. waits_in y o || any_of (λ i. waits_in y (message w i)) (places_of es)) a.0 ∙ waits_by_one (waits_for y e.1) e.1 (chosen (waits_for y) es) (any_of (λ i. waits_in y (message w i)) (places_of es)) (any_there w y es a.1)
+    ap (λ o. such_in (waits_for y) o || any_of (λ i. such_in (waits_for y) (message w i)) (places_of es)) a.0 ∙ waits_by_one (waits_for y e.1) e.1 (chosen (waits_for y) es) (any_of (λ i. such_in (waits_for y) (message w i)) (places_of es)) (any_there w y es a.1)
 
 -- a message waits for a node just where its queue has one
 pub one_queued : (first : ℕ) (w : Network) (qs : List (List Msg)) (ans : List Msg) (y : ℕ) → AreNews first w qs ans → IsNode y → one_waits first w y ≡ waits (queue_of qs y)
-one_queued first w qs ans y n is = ap (any_of (λ i. waits_in y (message w i))) n.fresh ∙ (any_there w y n.news n.there ∙ ap waits (n.queued y is))
+one_queued first w qs ans y n is = ap (any_of (λ i. such_in (waits_for y) (message w i))) n.fresh ∙ (any_there w y n.news n.there ∙ ap waits (n.queued y is))
 
 pub some_queued : (first : ℕ) (w : Network) (qs : List (List Msg)) (ans : List Msg) (ys : List ℕ) → AreNews first w qs ans → AllByRecursion IsNode ys → some_wait first w ys ≡ any_of (λ y. waits (queue_of qs y)) ys
 some_queued first w qs ans [] n is = refl

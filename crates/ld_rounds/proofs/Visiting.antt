@@ -143,8 +143,8 @@ takes_is f own s m x y e taken is = ap (λ (g : State → Msg → Bool). g s m) 
 module _ (who : Driver) (broken : Type 0) (c : Config) (first : ℕ) (b : IsInBounds c) (A : Config → State → Type 0) (apart : IsApart A) (s : State) where
   -- an answer that the actor doesn't take does nothing
   pub ignored : (y : ℕ) (far : Far) (qs : List (List Msg)) (m : Msg) (rest : List Msg) (w : Option (List ℕ)) → is_of y m.from ≡ true → far.answers ≡ m ∷ rest → who.takes s m ≡ false → Holds A c first s far qs
-      → Went who broken (Visiting c y) A (λ now. now ≡ record far { answers = rest }) c first s qs w w
-  ignored y far qs m rest w of e untaken h = went_quietly who broken c first b (Visiting c y) A (λ now. now ≡ record far { answers = rest }) s (record far { answers = rest }) qs w refl (lose_answer who broken c first b A apart y s far qs m rest of h e untaken)
+      → Went who broken (Visiting c first y) A (λ now. now ≡ record far { answers = rest }) c first s qs w w
+  ignored y far qs m rest w of e untaken h = went_quietly who broken c first b (Visiting c first y) A (λ now. now ≡ record far { answers = rest }) s (record far { answers = rest }) qs w refl (lose_answer who broken c first b A apart y s far qs m rest of h e untaken)
 
   module _ (tells : Config → Far → Type 0) (far : Far) (y due : ℕ) (present : far.present ≡ Some y) (of : AnswersOf y due far.answers) (is : IsNode y) (w : Option (List ℕ)) where
     -- what stands there once the node has handled a message
@@ -154,49 +154,49 @@ module _ (who : Driver) (broken : Type 0) (c : Config) (first : ℕ) (b : IsInBo
     told_of : (m : Msg) → IsHanded c far m (tells c) → tells c (handled m)
     told_of m i = subst (λ n. tells c (record { nodes = (handed c far.nodes n m).state.nodes; present = Some n; answers = far.answers ++ (handed c far.nodes n m).sends })) (some_is (sym i.present ∙ present)) i.told
 
-    handed_as : (n : ℕ) (qs : List (List Msg)) (m : Msg) (rest : List Msg) → Holds A c first s far qs → queue_of qs y ≡ m ∷ rest → AnswersOf y n (handed c far.nodes y m).sends → IsHanded c far m (tells c) → Went who broken (Visiting c y) A (Answering tells c y (due + n)) c first s (set qs y rest) w w
+    handed_as : (n : ℕ) (qs : List (List Msg)) (m : Msg) (rest : List Msg) → Holds A c first s far qs → queue_of qs y ≡ m ∷ rest → AnswersOf y n (handed c far.nodes y m).sends → IsHanded c far m (tells c) → Went who broken (Visiting c first y) A (Answering tells c y (due + n)) c first s (set qs y rest) w w
     handed_as n qs m rest h q a i =
-        went_quietly who broken c first b (Visiting c y) A (Answering tells c y (due + n)) s (handled m) (set qs y rest) w (told_of m i, refl, answers_more y due n far.answers (handed c far.nodes y m).sends of a)
+        went_quietly who broken c first b (Visiting c first y) A (Answering tells c y (due + n)) s (handled m) (set qs y rest) w (told_of m i, refl, answers_more y due n far.answers (handed c far.nodes y m).sends of a)
         (hand_first who broken c first b A apart s far qs y m rest h is q (first_waits first s.network qs far.answers y m rest h.news is q))
 
     -- the first message is handled by the node
-    pub handed_on : (qs : List (List Msg)) (m : Msg) (rest : List Msg) → Holds A c first s far qs → queue_of qs y ≡ m ∷ rest → IsHanded c far m (tells c) → Went who broken (Visiting c y) A (Answering tells c y (due + 1)) c first s (set qs y rest) w w
+    pub handed_on : (qs : List (List Msg)) (m : Msg) (rest : List Msg) → Holds A c first s far qs → queue_of qs y ≡ m ∷ rest → IsHanded c far m (tells c) → Went who broken (Visiting c first y) A (Answering tells c y (due + 1)) c first s (set qs y rest) w w
     handed_on qs m rest h q i = handed_as 1 qs m rest h q (answers_once c (alone far.nodes) y m) i
 
     -- it is of a kind that no node answers
-    pub handed_quietly : (qs : List (List Msg)) (m : Msg) (rest : List Msg) → Holds A c first s far qs → queue_of qs y ≡ m ∷ rest → is_answered m.body ≡ false → IsHanded c far m (tells c) → Went who broken (Visiting c y) A (Answering tells c y (due + 0)) c first s (set qs y rest) w w
+    pub handed_quietly : (qs : List (List Msg)) (m : Msg) (rest : List Msg) → Holds A c first s far qs → queue_of qs y ≡ m ∷ rest → is_answered m.body ≡ false → IsHanded c far m (tells c) → Went who broken (Visiting c first y) A (Answering tells c y (due + 0)) c first s (set qs y rest) w w
     handed_quietly qs m rest h q kind i = handed_as 0 qs m rest h q (due_none y 0 (handed c far.nodes y m).sends (answers_none c (alone far.nodes) y m kind)) i
 
     -- the first message is lost
-    gone_on : broken → (qs : List (List Msg)) (m : Msg) (rest : List Msg) → Holds A c first s far qs → queue_of qs y ≡ m ∷ rest → tells c far → Went who broken (Visiting c y) A (Answering tells c y due) c first s (set qs y rest) w w
-    gone_on why qs m rest h q t = went_quietly who broken c first b (Visiting c y) A (Answering tells c y due) s far (set qs y rest) w (t, present, of) (lose_first who broken c first b A apart why s far qs y m rest h is q)
+    gone_on : broken → (qs : List (List Msg)) (m : Msg) (rest : List Msg) → Holds A c first s far qs → queue_of qs y ≡ m ∷ rest → tells c far → Went who broken (Visiting c first y) A (Answering tells c y due) c first s (set qs y rest) w w
+    gone_on why qs m rest h q t = went_quietly who broken c first b (Visiting c first y) A (Answering tells c y due) s far (set qs y rest) w (t, present, of) (lose_first who broken c first b A apart why s far qs y m rest h is q)
 
     -- it isn't sent
     pub unsent : (quiet : Bool) (m : Msg) (rest : List Msg) (qs : List (List Msg)) (f : Fault) (before count : ℕ) → CountsFault {T = Unit {0}} before count (Err f) → (Rose before count → broken) → Holds A c first s far qs → queue_of qs y ≡ m ∷ rest → SendsTo c far m quiet (tells c) (Err f)
-        → (quiet ≡ true) ⊎ GoesOn who broken (Visiting c y) (VisitEnd c y) A (Answering tells c y (due_with due (unsent_by f))) c first s (set qs y rest) w w (unsent_by f)
+        → (quiet ≡ true) ⊎ GoesOn who broken (Visiting c first y) (VisitEnd c first y) A (Answering tells c y (due_with due (unsent_by f))) c first s (set qs y rest) w w (unsent_by f)
     unsent quiet m rest qs faults.Link before count rose why h q (inl gone) = inr (gone_on (why rose.0) qs m rest h q gone.told)
     unsent quiet m rest qs faults.Link before count rose why h q (inr silent) = inl silent
     unsent quiet m rest qs (faults.BadFrame fault) before count rose why h q sent = absurd sent
-    unsent quiet m rest qs faults.NoMemory before count rose why h q sent = inr (stopped_here who broken c first b (Visiting c y) s w (tt, tt))
+    unsent quiet m rest qs faults.NoMemory before count rose why h q sent = inr (stopped_here who broken c first b (Visiting c first y) s w (tt, tt, tt))
 
   -- nothing is taken
-  pub unheard : (y : ℕ) (T U : Far → Type 0) (far : Far) (qs : List (List Msg)) (w : Option (List ℕ)) (f : Fault) → Receives far T (Err f) → GoesOn who broken (Visiting c y) (VisitEnd c y) A U c first s qs w w (missed_by f)
+  pub unheard : (y : ℕ) (T U : Far → Type 0) (far : Far) (qs : List (List Msg)) (w : Option (List ℕ)) (f : Fault) → Receives far T (Err f) → GoesOn who broken (Visiting c first y) (VisitEnd c first y) A U c first s qs w w (missed_by f)
   unheard y T U far qs w faults.Link h = absurd h
   unheard y T U far qs w (faults.BadFrame fault) h = absurd h
-  unheard y T U far qs w faults.NoMemory h = stopped_here who broken c first b (Visiting c y) s w (tt, tt)
+  unheard y T U far qs w faults.NoMemory h = stopped_here who broken c first b (Visiting c first y) s w (tt, tt, tt)
 
   -- a node is dialed
-  pub dialed : (tells : Config → Far → Type 0) (far : Far) (y : ℕ) (qs : List (List Msg)) (w : Option (List ℕ)) → far.answers ≡ [] → Holds A c first s far qs → tells c (record { nodes = far.nodes; present = Some y; answers = [] }) → Went who broken (Visiting c y) A (WithNode tells c y) c first s qs w w
-  dialed tells far y qs w none h t = went_quietly who broken c first b (Visiting c y) A (WithNode tells c y) s (record { nodes = far.nodes; present = Some y; answers = [] }) qs w ((t, refl), refl) (turn_to who broken c first b A apart y s far (Some y) qs none h)
+  pub dialed : (tells : Config → Far → Type 0) (far : Far) (y : ℕ) (qs : List (List Msg)) (w : Option (List ℕ)) → far.answers ≡ [] → Holds A c first s far qs → tells c (record { nodes = far.nodes; present = Some y; answers = [] }) → Went who broken (Visiting c first y) A (WithNode tells c y) c first s qs w w
+  dialed tells far y qs w none h t = went_quietly who broken c first b (Visiting c first y) A (WithNode tells c y) s (record { nodes = far.nodes; present = Some y; answers = [] }) qs w ((t, refl), refl) (turn_to who broken c first b A apart y s far (Some y) qs none h)
 
   -- a node wasn't reached, and what waits for it is dropped
-  pub missed : broken → (T : Far → Type 0) (far : Far) (y : ℕ) (qs : List (List Msg)) (w : Option (List ℕ)) → far.answers ≡ [] → IsNode y → Holds A c first s far qs → T (record { nodes = far.nodes; present = None; answers = [] }) → Went who broken (Visiting c y) A T c first s (set qs y []) w w
+  pub missed : broken → (T : Far → Type 0) (far : Far) (y : ℕ) (qs : List (List Msg)) (w : Option (List ℕ)) → far.answers ≡ [] → IsNode y → Holds A c first s far qs → T (record { nodes = far.nodes; present = None; answers = [] }) → Went who broken (Visiting c first y) A T c first s (set qs y []) w w
   missed why T far y qs w none is h t =
       let end : Far = record { nodes = far.nodes; present = None; answers = [] } in
       let m = turn_to who broken c first b A apart y s far None qs none h in
-      went_quietly who broken c first b (Visiting c y) A T s end (set qs y []) w t (moved_visiting who broken c first b y A A s end end qs (set qs y []) [] [] m (lose_queue who broken c first b A apart why m.state end qs y m.holds is))
+      went_quietly who broken c first b (Visiting c first y) A T s end (set qs y []) w t (moved_visiting who broken c first b y A A s end end qs (set qs y []) [] [] m (lose_queue who broken c first b A apart why m.state end qs y m.holds is))
 
   -- what waits for a node is dropped
-  pub dropped : broken → (T : Far → Type 0) (qs : List (List Msg)) (y : ℕ) (old new : Option (List ℕ)) → IsNode y → Went who broken (Visiting c y) A T c first s qs old new → Went who broken (Visiting c y) A T c first s (set qs y []) old new
+  pub dropped : broken → (T : Far → Type 0) (qs : List (List Msg)) (y : ℕ) (old new : Option (List ℕ)) → IsNode y → Went who broken (Visiting c first y) A T c first s qs old new → Went who broken (Visiting c first y) A T c first s (set qs y []) old new
   dropped why T qs y old new is w =
-      went_on who broken c first b (Visiting c y) (Visiting c y) (Visiting c y) A A T T s qs (set qs y []) old new new (visiting_joins c y) w (went_quietly who broken c first b (Visiting c y) A T w.moved.state w.far (set qs y []) new w.told (lose_queue who broken c first b A apart why w.moved.state w.far qs y w.moved.holds is))
+      went_on who broken c first b (Visiting c first y) (Visiting c first y) (Visiting c first y) A A T T s qs (set qs y []) old new new (visiting_joins c first y) w (went_quietly who broken c first b (Visiting c first y) A T w.moved.state w.far (set qs y []) new w.told (lose_queue who broken c first b A apart why w.moved.state w.far qs y w.moved.holds is))

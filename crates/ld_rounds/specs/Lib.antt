@@ -18,3 +18,4 @@ pub mod Requests
 pub mod Rounds
 pub mod Taking
 pub mod Telling
+pub mod Turns

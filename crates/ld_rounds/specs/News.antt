@@ -54,13 +54,14 @@ pub record AreNews (first : ℕ) (w : Network) (queues : List (List Msg)) (answe
 
 -- ---- waiting ----
 
-abbrev pub waits_in : ℕ → Option Msg → Bool
-waits_in y None = false
-waits_in y (Some m) = waits_for y m
+-- such a message stands there
+abbrev pub such_in : (Msg → Bool) → Option Msg → Bool
+such_in p None = false
+such_in p (Some m) = p m
 
 -- whether a message that is new from the first place on waits for the node
 abbrev pub one_waits : ℕ → Network → ℕ → Bool
-one_waits first w y = any_of (λ i. waits_in y (message w i)) (filter (λ i. nat_le first i) w.fresh)
+one_waits first w y = any_of (λ i. such_in (waits_for y) (message w i)) (filter (λ i. nat_le first i) w.fresh)
 
 -- whether one waits for any of these nodes
 abbrev pub some_wait : ℕ → Network → List ℕ → Bool

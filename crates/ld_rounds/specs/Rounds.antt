@@ -22,6 +22,7 @@ use Rattle.ld_rounds.specs.Input.{Input, ComesTo}
 use Rattle.ld_rounds.specs.Queued.{queue_of}
 use Rattle.ld_rounds.specs.News.{AreNews, is_answer, waits_for, some_wait}
 use Rattle.ld_rounds.specs.Telling.{is_of}
+use Rattle.ld_rounds.specs.Turns.{IsFirst, AreInTurn}
 use Rattle.ld_rounds.specs.Drives.{AreLater, CallCounts, counted, HasBroken}
 use Rattle.ld_rounds.specs.Requests.{request_event, is_waiting, IsRequestBy}
 use Rattle.ld_rounds.specs.declared.request.Request.{Request}
@@ -55,11 +56,12 @@ IsBegun e s es = (es ≡ []) ⊎ (es ≡ e ∷ [])
 
 -- ---- visits ----
 
--- the answer of a place is delivered
-pub record IsDelivered (m : Msg) (s : State) (es : List Event) : Type 0 where
+-- the answer of a place is delivered, the first one of those that are new
+pub record IsDelivered (first : ℕ) (m : Msg) (s : State) (es : List Event) : Type 0 where
   pub place : ℕ
   pub one : es ≡ events.Deliver place ∷ []
   pub there : message s.network place ≡ Some m
+  pub foremost : IsFirst is_answer first s.network place
 
 -- the node that tells its actor to wait, by such a message
 abbrev pub waiting_by : Who → Body → Option ℕ
@@ -118,12 +120,12 @@ abbrev pub AreAbout : ℕ → Config → State → List Event → Type 0
 AreAbout y c s [] = Unit {0}
 AreAbout y c s (e ∷ es) = IsAbout y s e × AreAbout y c (step c s e).state es
 
--- the steps of a visit of a node
-abbrev pub Visiting : Config → ℕ → State → List Event → Type 0
-Visiting c y s es = Calm c s es × AreAbout y c s es
+-- the steps of a visit of a node: each message is taken in its turn
+abbrev pub Visiting : Config → ℕ → ℕ → State → List Event → Type 0
+Visiting c first y s es = Calm c s es × AreAbout y c s es × AreInTurn first y c s es
 
-abbrev pub VisitEnd : Config → ℕ → Ended → State → List Event → Type 0
-VisitEnd c y ended = Visiting c y
+abbrev pub VisitEnd : Config → ℕ → ℕ → Ended → State → List Event → Type 0
+VisitEnd c first y ended = Visiting c first y
 
 -- a message that is no answer is lost only where that is broken
 abbrev pub IsLossBy : Type 0 → Option Msg → Type 0
@@ -139,13 +141,13 @@ LoseBy broken c s [] = Unit {0}
 LoseBy broken c s (e ∷ es) = LosesBy broken s e × LoseBy broken c (step c s e).state es
 
 -- such steps, in which messages to the node are lost only where by these counts a call of the nodes failed or one was found to have ended
-pub record IsVisiting (c : Config) (y : ℕ) (counts : CallCounts) (s : State) (es : List Event) : Type 0 where
-  pub steps : Visiting c y s es
+pub record IsVisiting (c : Config) (first y : ℕ) (counts : CallCounts) (s : State) (es : List Event) : Type 0 where
+  pub steps : Visiting c first y s es
   pub few : LoseBy (HasBroken counts) c s es
 
 -- and that lead to a state in which no message that is new from the first place on waits for the node, and no answer is to be taken
 pub record IsVisit (c : Config) (first y : ℕ) (counts : CallCounts) (s : State) (es : List Event) : Type 0 where
-  pub visiting : IsVisiting c y counts s es
+  pub visiting : IsVisiting c first y counts s es
   pub queues : List (List Msg)
   pub news : AreNews first (state_after c s es).network queues []
   pub emptied : queue_of queues y ≡ []
@@ -158,7 +160,7 @@ AreVisits c first (y ∷ ys) counts s es = Chains (IsVisit c first y) (AreVisits
 -- so far: the first ones, and the next one in part
 abbrev pub ArePartVisits : Config → ℕ → List ℕ → CallCounts → State → List Event → Type 0
 ArePartVisits c first [] counts s es = es ≡ []
-ArePartVisits c first (y ∷ ys) counts s es = IsVisiting c y counts s es ⊎ Chains (IsVisit c first y) (ArePartVisits c first ys) c counts s es
+ArePartVisits c first (y ∷ ys) counts s es = IsVisiting c first y counts s es ⊎ Chains (IsVisit c first y) (ArePartVisits c first ys) c counts s es
 
 abbrev pub VisitsEnd : Config → ℕ → List ℕ → CallCounts → Ended → State → List Event → Type 0
 VisitsEnd c first ys counts ended = ArePartVisits c first ys counts

@@ -483,9 +483,10 @@ pub fn append<A: Appends, N: Nodes, P: Payloads, O: Sink>(
     // one after the other. A trim is made only where the sequencer has every append acknowledged and every epoch before its own
     // closed. The requests that the machine took are the first ones that came, in their order; they are all where it is done,
     // and where it comes to a line with a syntax error. The lines that were written are the sequencer's lines of those steps.
-    // Each message that is delivered or lost in a visit is to its node or an answer of it. A message to a node is lost only in
-    // a visit of it in which a call of the nodes failed or a node had ended: what failed in one visit allows no loss in
-    // another. An answer is lost only where the sequencer doesn't take it; it never ends with `BadFrame`.
+    // Each message that is delivered or lost in a visit is to its node or an answer of it, and is so once and in its turn. A
+    // message to a node is lost only in a visit of it in which a call of the nodes failed or a node had ended: what failed in
+    // one visit allows no loss in another. An answer is lost only where the sequencer doesn't take it; it never ends with
+    // `BadFrame`.
     ensures held { (c : Config) (first : ℕ) (s : State) (far : Far) → IsInBounds c → AreOfConfig c (members set.now)
         → AllTaken (N.tells nodes.old c) far → Holds (A.stands sequencer.old) c first s far queues.old
         → (N.silent nodes.new ≡ true) ⊎ TookAppends (driver name.now (A.own sequencer.old)) (counted (N.faults nodes.old) (N.faults nodes.new) (N.endings nodes.old) (N.endings nodes.new)) (members set.now) (P.coming input.old) rounds (A.stands sequencer.new) (AllTaken (N.tells nodes.new c)) c first s queues.new (Some (O.written out.old)) (Some (O.written out.new)) result }
@@ -498,6 +499,7 @@ pub fn append<A: Appends, N: Nodes, P: Payloads, O: Sink>(
     ensures cause { IfErr result (IsAppendEnding (P.coming input.old) (P.faults input.old) (P.faults input.new) (O.faults out.old) (O.faults out.new) (Some (O.written out.old)) (Some (O.written out.new))) }
     ensures off { IfErr result (IsOffAs (N.off nodes.new)) }
     ensures ended { N.off nodes.old ≡ None → EndsOff (N.off nodes.new) result }
+    ensures later { IsLater (O.faults out.old) (O.faults out.new) (Some (O.written out.old)) (Some (O.written out.new)) }
 {
     let mut feed = Feed::new();
     'rounds: for number in 0..rounds {

@@ -181,10 +181,10 @@ pub fn read<R: Reads, N: Nodes, O: Sink>(
     // drive represents, round by round: it polls, but one that is sparing just where no message that is new from the first
     // place on waits for a node of the set, and the set's nodes are visited one after the other. The lines that were written
     // are the reader's lines of those steps. Each message that is delivered or lost in a visit is to its node or an answer of
-    // it. A message to a node is lost only in a visit of it in which a call of the nodes failed or a node had ended: what
-    // failed in one visit allows no loss in another. An answer is lost only where the reader doesn't take it. In its visit a
-    // node may be ticked, right behind an answer by which it tells the reader to wait, where the reader tells nodes of a log's
-    // closed epochs; it never ends with `BadFrame`.
+    // it, and is so once and in its turn. A message to a node is lost only in a visit of it in which a call of the nodes failed
+    // or a node had ended: what failed in one visit allows no loss in another. An answer is lost only where the reader doesn't
+    // take it. In its visit a node may be ticked, right behind an answer by which it tells the reader to wait, where the reader
+    // tells nodes of a log's closed epochs; it never ends with `BadFrame`.
     ensures held { (c : Config) (first : ℕ) (s : State) (far : Far) → IsInBounds c → AreOfConfig c (members set.now)
         → AllTaken (N.tells nodes.old c) far → Holds (R.stands reader.old) c first s far queues.old
         → (N.silent nodes.new ≡ true) ⊎ TookReads is_sparing (driver name.now (R.own reader.old)) (counted (N.faults nodes.old) (N.faults nodes.new) (N.endings nodes.old) (N.endings nodes.new)) (members set.now) rounds (R.stands reader.new) (AllTaken (N.tells nodes.new c)) c first s queues.new (Some (O.written out.old)) (Some (O.written out.new)) result }

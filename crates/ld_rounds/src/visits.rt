@@ -104,7 +104,7 @@ fn listen<A: Actor, N: Nodes, O: Sink>(
 ) -> Result<bool, Ended>
     ensures held { (who : Driver) → IsDriverOf who (A.own actor.old) → (c : Config) (first : ℕ) (s : State) (far : Far) → IsInBounds c → has_node c node ≡ true
         → Answering (N.tells nodes.old) c node (due + 1) far → Holds (A.stands actor.old) c first s far queues.old
-        → (N.silent nodes.new ≡ true) ⊎ GoesOn who (IsBroken (N.faults nodes.old) (N.faults nodes.new) (N.endings nodes.old) (N.endings nodes.new)) (Visiting c node) (VisitEnd c node) (A.stands actor.new) (Answering (N.tells nodes.new) c node (still_due due result)) c first s queues.new (Some (O.written out.old)) (Some (O.written out.new)) result }
+        → (N.silent nodes.new ≡ true) ⊎ GoesOn who (IsBroken (N.faults nodes.old) (N.faults nodes.new) (N.endings nodes.old) (N.endings nodes.new)) (Visiting c first node) (VisitEnd c first node) (A.stands actor.new) (Answering (N.tells nodes.new) c node (still_due due result)) c first s queues.new (Some (O.written out.old)) (Some (O.written out.new)) result }
     ensures silent { N.silent nodes.old ≡ true → N.silent nodes.new ≡ true }
     ensures itself { A.own actor.new ≡ A.own actor.old }
     ensures since { A.since actor.old actor.new }
@@ -153,7 +153,7 @@ fn take<A: Actor, O: Sink>(
     requires hears { A.hears actor.old answer.now }
     ensures held { (who : Driver) (y : ℕ) (c : Config) (first : ℕ) (s : State) (far : Far) (rest : List Message) → IsInBounds c
         → is_of y answer.now.from ≡ true → who.takes s answer.now ≡ true → far.answers ≡ answer.now ∷ rest → Holds (A.stands actor.old) c first s far queues.old
-        → GoesOn who ⊥ (IsDelivered answer.now) (VisitEnd c y) (A.stands actor.new) (λ now. now ≡ record far { answers = rest }) c first s queues.new (Some (O.written out.old)) (Some (O.written out.new)) result }
+        → GoesOn who ⊥ (IsDelivered first answer.now) (VisitEnd c first y) (A.stands actor.new) (λ now. now ≡ record far { answers = rest }) c first s queues.new (Some (O.written out.old)) (Some (O.written out.new)) result }
     ensures itself { A.own actor.new ≡ A.own actor.old }
     ensures since { A.since actor.old actor.new }
     ensures cause { IfErr result (IsEnding (O.faults out.old) (O.faults out.new) (Some (O.written out.old)) (Some (O.written out.new))) }
@@ -261,7 +261,7 @@ fn listen_all<A: Actor, N: Nodes, O: Sink>(
 ) -> Result<bool, Ended>
     ensures held { (who : Driver) → IsDriverOf who (A.own actor.old) → (c : Config) (first : ℕ) (s : State) (far : Far) → IsInBounds c → has_node c node ≡ true
         → Answering (N.tells nodes.old) c node due far → Holds (A.stands actor.old) c first s far queues.old
-        → (N.silent nodes.new ≡ true) ⊎ GoesOn who (IsBroken (N.faults nodes.old) (N.faults nodes.new) (N.endings nodes.old) (N.endings nodes.new)) (Visiting c node) (VisitEnd c node) (A.stands actor.new) (WithNode (N.tells nodes.new) c node) c first s queues.new (Some (O.written out.old)) (Some (O.written out.new)) result }
+        → (N.silent nodes.new ≡ true) ⊎ GoesOn who (IsBroken (N.faults nodes.old) (N.faults nodes.new) (N.endings nodes.old) (N.endings nodes.new)) (Visiting c first node) (VisitEnd c first node) (A.stands actor.new) (WithNode (N.tells nodes.new) c node) c first s queues.new (Some (O.written out.old)) (Some (O.written out.new)) result }
     ensures silent { N.silent nodes.old ≡ true → N.silent nodes.new ≡ true }
     ensures itself { A.own actor.new ≡ A.own actor.old }
     ensures since { A.since actor.old actor.new }
@@ -297,7 +297,7 @@ fn send_one<A: Actor, N: Nodes>(
     requires { IsMessage message.now }
     ensures held { (who : Driver) (c : Config) (first : ℕ) (s : State) (far : Far) (queues : List (List Message)) (rest : List Message) (due : ℕ) (written : Option (List ℕ)) → IsInBounds c
         → Answering (N.tells nodes.old) c node due far → Holds (A.stands actor.now) c first s far queues → queue_of queues node ≡ message.now ∷ rest
-        → (N.silent nodes.new ≡ true) ⊎ GoesOn who (IsBroken (N.faults nodes.old) (N.faults nodes.new) (N.endings nodes.old) (N.endings nodes.new)) (Visiting c node) (VisitEnd c node) (A.stands actor.now) (Answering (N.tells nodes.new) c node (due_with due result)) c first s (set queues node rest) written written result }
+        → (N.silent nodes.new ≡ true) ⊎ GoesOn who (IsBroken (N.faults nodes.old) (N.faults nodes.new) (N.endings nodes.old) (N.endings nodes.new)) (Visiting c first node) (VisitEnd c first node) (A.stands actor.now) (Answering (N.tells nodes.new) c node (due_with due result)) c first s (set queues node rest) written written result }
     ensures few { IfOk result (λ due. IfSome due (λ n. n ≤ 1)) }
     ensures silent { N.silent nodes.old ≡ true → N.silent nodes.new ≡ true }
     ensures cause { (before : ℕ) (now : ℕ) (old : Option (List ℕ)) (new : Option (List ℕ)) → IfErr result (IsEnding before now old new) }
@@ -351,7 +351,7 @@ fn send_some<A: Actor, N: Nodes>(
     requires { most ≤ 128 }
     ensures held { (who : Driver) (c : Config) (first : ℕ) (s : State) (far : Far) (written : Option (List ℕ)) → IsInBounds c
         → WithNode (N.tells nodes.old) c node far → Holds (A.stands actor.now) c first s far queues.old
-        → (N.silent nodes.new ≡ true) ⊎ GoesOn who (IsBroken (N.faults nodes.old) (N.faults nodes.new) (N.endings nodes.old) (N.endings nodes.new)) (Visiting c node) (VisitEnd c node) (A.stands actor.now) (Answering (N.tells nodes.new) c node (due_of result)) c first s queues.new written written result }
+        → (N.silent nodes.new ≡ true) ⊎ GoesOn who (IsBroken (N.faults nodes.old) (N.faults nodes.new) (N.endings nodes.old) (N.endings nodes.new)) (Visiting c first node) (VisitEnd c first node) (A.stands actor.now) (Answering (N.tells nodes.new) c node (due_of result)) c first s queues.new written written result }
     // No more of them than that are taken out of the queue.
     ensures few { TakesUpTo most queues.old node queues.new }
     ensures silent { N.silent nodes.old ≡ true → N.silent nodes.new ≡ true }
@@ -395,7 +395,7 @@ fn exchange<A: Actor, N: Nodes, O: Sink>(
 ) -> Result<bool, Ended>
     ensures held { (who : Driver) → IsDriverOf who (A.own actor.old) → (c : Config) (first : ℕ) (s : State) (far : Far) → IsInBounds c → has_node c node ≡ true
         → WithNode (N.tells nodes.old) c node far → Holds (A.stands actor.old) c first s far queues.old
-        → (N.silent nodes.new ≡ true) ⊎ GoesOn who (IsBroken (N.faults nodes.old) (N.faults nodes.new) (N.endings nodes.old) (N.endings nodes.new)) (Visiting c node) (VisitEnd c node) (A.stands actor.new) (WithNode (N.tells nodes.new) c node) c first s queues.new (Some (O.written out.old)) (Some (O.written out.new)) result }
+        → (N.silent nodes.new ≡ true) ⊎ GoesOn who (IsBroken (N.faults nodes.old) (N.faults nodes.new) (N.endings nodes.old) (N.endings nodes.new)) (Visiting c first node) (VisitEnd c first node) (A.stands actor.new) (WithNode (N.tells nodes.new) c node) c first s queues.new (Some (O.written out.old)) (Some (O.written out.new)) result }
     ensures silent { N.silent nodes.old ≡ true → N.silent nodes.new ≡ true }
     ensures itself { A.own actor.new ≡ A.own actor.old }
     ensures since { A.since actor.old actor.new }
@@ -415,9 +415,10 @@ fn exchange<A: Actor, N: Nodes, O: Sink>(
     Ok(false)
 }
 
-/// Visits a node, where messages wait for it: it is dialed, and gets up to as many of them as the queues tell, whose answers are
-/// taken then, and so on until none waits. What its answers make wait for it is sent in the same visit. Where it can't be
-/// reached, fails or ends, what waits for it is dropped.
+/// Visits a node, where messages wait for it: it is dialed, and gets up to as many of them as the queues tell, whose answers
+/// are taken then, and so on until none waits. Messages and answers are taken each once, and in the order in which it waits.
+/// What its answers make wait for it is sent in the same visit. Where it can't be reached, fails or ends, what waits for it is
+/// dropped.
 pub fn visit<A: Actor, N: Nodes, O: Sink>(
     alloc: Global,
     node: NodeId,
@@ -428,13 +429,14 @@ pub fn visit<A: Actor, N: Nodes, O: Sink>(
 ) -> Result<(), Ended>
     // Where the nodes tell what stands there: what was delivered, heard and lost are steps of the written machine from any
     // state that the drive represents, and the lines that were written are the actor's lines of those steps. Each message
-    // that was delivered or lost is to this node or an answer of it. A message to it is lost only where a call of the nodes
+    // that was delivered or lost is to this node or an answer of it, and was so in its turn: it was new, and none before it was
+    // new and waited for the node too, or was new and an answer too. A message to it is lost only where a call of the nodes
     // failed or a node had ended in this visit, and an answer only where the actor doesn't take it. Right behind an answer by
     // which it tells its actor to wait the node may be ticked, where the actor tells nodes of a log's closed epochs. Where it
     // goes on nothing waits for the node, and no answer is to be taken.
     ensures held { (who : Driver) → IsDriverOf who (A.own actor.old) → (c : Config) (first : ℕ) (s : State) (far : Far) → IsInBounds c → has_node c node ≡ true
         → AllTaken (N.tells nodes.old c) far → Holds (A.stands actor.old) c first s far queues.old
-        → (N.silent nodes.new ≡ true) ⊎ GoesOn who (IsBroken (N.faults nodes.old) (N.faults nodes.new) (N.endings nodes.old) (N.endings nodes.new)) (IsVisit c first node (counted (N.faults nodes.old) (N.faults nodes.new) (N.endings nodes.old) (N.endings nodes.new))) (λ e. IsVisiting c node (counted (N.faults nodes.old) (N.faults nodes.new) (N.endings nodes.old) (N.endings nodes.new))) (A.stands actor.new) (AllTaken (N.tells nodes.new c)) c first s queues.new (Some (O.written out.old)) (Some (O.written out.new)) result }
+        → (N.silent nodes.new ≡ true) ⊎ GoesOn who (IsBroken (N.faults nodes.old) (N.faults nodes.new) (N.endings nodes.old) (N.endings nodes.new)) (IsVisit c first node (counted (N.faults nodes.old) (N.faults nodes.new) (N.endings nodes.old) (N.endings nodes.new))) (λ e. IsVisiting c first node (counted (N.faults nodes.old) (N.faults nodes.new) (N.endings nodes.old) (N.endings nodes.new))) (A.stands actor.new) (AllTaken (N.tells nodes.new c)) c first s queues.new (Some (O.written out.old)) (Some (O.written out.new)) result }
     ensures silent { N.silent nodes.old ≡ true → N.silent nodes.new ≡ true }
     ensures itself { A.own actor.new ≡ A.own actor.old }
     ensures since { A.since actor.old actor.new }
@@ -469,7 +471,8 @@ pub fn visit<A: Actor, N: Nodes, O: Sink>(
     Err(Ended::NoMemory)
 }
 
-/// Visits the nodes of a set in rising order.
+/// Visits the nodes of a set in rising order. In each visit the messages that wait for its node are taken, and the answers that
+/// are due, each once and in the order in which it waits.
 pub fn round<A: Actor, N: Nodes, O: Sink>(
     alloc: Global,
     set: &NodeSet,
@@ -481,9 +484,9 @@ pub fn round<A: Actor, N: Nodes, O: Sink>(
     // Where the nodes tell what stands there: what was delivered, heard and lost are steps of the written machine from any
     // state that the drive represents, and the lines that were written are the actor's lines of those steps. They are visits
     // of the set's nodes, one after the other, the last one in part where it ends. Each message that was delivered or lost in
-    // a visit is to its node or an answer of it. A message to a node is lost only in a visit of it in which a call of the nodes
-    // failed or a node had ended, and an answer only where the actor doesn't take it. Each whole visit leads to a state in
-    // which nothing waits for its node, and no answer is to be taken.
+    // a visit is to its node or an answer of it, and was so in its turn. A message to a node is lost only in a visit of it in
+    // which a call of the nodes failed or a node had ended, and an answer only where the actor doesn't take it. Each whole
+    // visit leads to a state in which nothing waits for its node, and no answer is to be taken.
     ensures held { (who : Driver) → IsDriverOf who (A.own actor.old) → (c : Config) (first : ℕ) (s : State) (far : Far) → IsInBounds c → AreOfConfig c (members set.now)
         → AllTaken (N.tells nodes.old c) far → Holds (A.stands actor.old) c first s far queues.old
         → (N.silent nodes.new ≡ true) ⊎ GoesOn who (IsBroken (N.faults nodes.old) (N.faults nodes.new) (N.endings nodes.old) (N.endings nodes.new)) (AreVisits c first (members set.now) (counted (N.faults nodes.old) (N.faults nodes.new) (N.endings nodes.old) (N.endings nodes.new))) (VisitsEnd c first (members set.now) (counted (N.faults nodes.old) (N.faults nodes.new) (N.endings nodes.old) (N.endings nodes.new))) (A.stands actor.new) (AllTaken (N.tells nodes.new c)) c first s queues.new (Some (O.written out.old)) (Some (O.written out.new)) result }

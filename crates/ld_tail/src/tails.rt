@@ -132,9 +132,10 @@ pub fn tail<G: Register, N: Nodes, O: Sink>(
     // Where the nodes and the register tell what stands there: all that was done are steps of the written machine from any state
     // without readers that they represent: the reader is opened, and then round by round it polls, where it reads one copy only
     // if no message that is new waits for a node, and the configuration's nodes are visited one after the other. The lines that
-    // were written are the reader's lines of those steps. A message to a node is lost only in a visit of it in which a call of
-    // the nodes failed or a node had ended, and an answer only where the reader doesn't take it. A node may be ticked for the
-    // log in its visit, right behind an answer by which it tells the reader to wait. It never ends with `BadFrame`.
+    // were written are the reader's lines of those steps. In a visit messages and answers are taken each once, and in the order
+    // in which it waits. A message to a node is lost only in a visit of it in which a call of the nodes failed or a node had
+    // ended, and an answer only where the reader doesn't take it. A node may be ticked for the log in its visit, right behind
+    // an answer by which it tells the reader to wait. It never ends with `BadFrame`.
     ensures tailed { (s : State) (far : Far) → N.tells nodes.old config.now far → Begins (HasNone (G.tells register)) config.now s far
         → (N.silent nodes.new ≡ true) ⊎ IsTailed (record { name = name; log = log; from = from; until = until; style = style }) (counted (N.faults nodes.old) (N.faults nodes.new) (N.endings nodes.old) (N.endings nodes.new)) rounds (N.tells nodes.new) (G.tells result.1) config.now s (Some (O.written out.old)) (Some (O.written out.new)) result.0 }
     // Where a run of the written machine leads to such a state, that run goes on by these steps, and is safe as a whole.

@@ -7,6 +7,7 @@ use Rattle.ld_rounds.specs.declared.ended.Ended.TheVariants as ends
 use Rattle.ld_append.specs.Acting.{Leaves, leaves_here}
 use Rattle.ld_append.specs.Appends.{HasNone, EndAt, sequencing}
 use Rattle.ld_rounds.proofs.Joining.{feeds_here, feeds_until}
+use Rattle.ld_rounds.proofs.Endings.{later_here}
 use Rattle.ld_rounds.proofs.Going.{stopped_here}
 use Rattle.ld_append.proofs.Onward.{run_loud, ended_by, drove_on}
 use Rattle.ld_append.proofs.drives.append.Goals as goal
@@ -55,3 +56,6 @@ returns-clause-register g c = ap g.G.Register.identity c.into_register.ensures â
 
 pub returns-in_default-clause-leaves : goal.returns-in_default-clause-leaves
 returns-in_default-clause-leaves g c = leaves_here c.args.spec.now.log (g.G.Register.told c.args.register) (g.G.Register.may_hold c.args.register)
+
+pub returns-in_default-clause-output : goal.returns-in_default-clause-output
+returns-in_default-clause-output g c = later_here _ _

@@ -19,7 +19,7 @@ use Rattle.ld_append.proofs.Appending.{begun, start_as, stopped_append, drove_lo
 use Rattle.ld_append.proofs.Ending.{rounds_cause}
 use Rattle.ld_append.proofs.Keeping.{refused_since}
 use Rattle.ld_rounds.specs.Endings.{IsOffAs, EndsOff}
-use Rattle.ld_rounds.proofs.Endings.{none_off}
+use Rattle.ld_rounds.proofs.Endings.{none_off, later_here, later_on}
 use Rattle.ld_append.proofs.Rounding.{round_cause, round_off, round_ends, round_refused, round_loud}
 use Rattle.ld_append.specs.Refusing.{round_end}
 use Rattle.ld_append.proofs.drives.drive.Goals as goal
@@ -153,3 +153,9 @@ pub returns-clause-ended : goal.returns-clause-ended
 returns-clause-ended g c =
     let off = g.N.Nodes.off c.append-driven.new.nodes in
     λ none. subst (λ (x : Result Bool Ended). EndsOff off x) (sym c.round_end.ensures) (round_ends off c.end.result c.append-driven.result (c.append-driven.ensures.ended none))
+
+pub returns-in_default-clause-output : goal.returns-in_default-clause-output
+returns-in_default-clause-output g c = later_here _ _
+
+pub returns-clause-output : goal.returns-clause-output
+returns-clause-output g c = later_on _ _ _ _ _ _ c.in_ok-start.ensures.later c.append-driven.ensures.later

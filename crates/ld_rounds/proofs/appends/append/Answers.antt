@@ -109,3 +109,9 @@ returns-clause-ended g c = λ none. none_off _ _ (c.rounds.invariant.9 none)
 
 pub returns-clause-undone : goal.returns-clause-undone
 returns-clause-undone g c = λ some undone idle. has_come (g.P.Payloads.coming c.args.input.now) c.rounds.feed.held (g.P.Payloads.coming c.rounds.input) _ _ c.rounds.feed.is_over c.rounds.invariant.6 (c.rounds.invariant.10 (omega (arith, some))) (c.rounds.invariant.11 (omega (arith, some))) idle
+
+pub returns-then-branch-clause-later : goal.returns-then-branch-clause-later
+returns-then-branch-clause-later g c = later_on _ _ _ _ _ _ c.rounds.invariant.1 c.in_ok-turn.ensures.later
+
+pub returns-in_err-turn-clause-later : goal.returns-in_err-turn-clause-later
+returns-in_err-turn-clause-later g c = later_on _ _ _ _ _ _ c.rounds.invariant.1 c.in_err-turn.ensures.later

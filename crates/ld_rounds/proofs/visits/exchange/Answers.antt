@@ -14,7 +14,7 @@ returns-in_err-due-clause-held g c who is k first s far b there told h =
     let T = g.N.Nodes.tells c.send_some.new.nodes in
     let w = Some (g.O.Sink.written c.args.out.now) in
     rw (p.1, p.2) (⊎_elim (λ quiet. inl quiet)
-    (λ v. inr (goes_as who (IsBroken (g.N.Nodes.faults c.args.nodes.now) (g.N.Nodes.faults c.send_some.new.nodes) (g.N.Nodes.endings c.args.nodes.now) (g.N.Nodes.endings c.send_some.new.nodes)) k first b {R = Bool} (Visiting k y) (VisitEnd k y) (IsBroken (g.N.Nodes.faults c.args.nodes.now) (g.N.Nodes.faults c.send_some.new.nodes) (g.N.Nodes.endings c.args.nodes.now) (g.N.Nodes.endings c.send_some.new.nodes)) (g.A.Actor.stands c.args.actor.now) (Answering T k y 0) (WithNode T k y) s c.send_some.new.queues w w (Err c.in_err-due.field-0.0) (λ l. l) (λ f t. has_answered T k y 0 f refl t) v))
+    (λ v. inr (goes_as who (IsBroken (g.N.Nodes.faults c.args.nodes.now) (g.N.Nodes.faults c.send_some.new.nodes) (g.N.Nodes.endings c.args.nodes.now) (g.N.Nodes.endings c.send_some.new.nodes)) k first b {R = Bool} (Visiting k first y) (VisitEnd k first y) (IsBroken (g.N.Nodes.faults c.args.nodes.now) (g.N.Nodes.faults c.send_some.new.nodes) (g.N.Nodes.endings c.args.nodes.now) (g.N.Nodes.endings c.send_some.new.nodes)) (g.A.Actor.stands c.args.actor.now) (Answering T k y 0) (WithNode T k y) s c.send_some.new.queues w w (Err c.in_err-due.field-0.0) (λ l. l) (λ f t. has_answered T k y 0 f refl t) v))
     (c.in_err-due.ensures.held who k first s far w b told h))
 
 pub returns-in_err-due-clause-cause : goal.returns-in_err-due-clause-cause

@@ -24,14 +24,14 @@ returns-in-Err-clause-held g c who is k first s far b there told h =
     let y = c.args.node in
     let T = g.N.Nodes.tells c.receive.new.self in
     let w = Some (g.O.Sink.written c.args.out.now) in
-    inr (subst (λ r. GoesOn who (IsBroken (g.N.Nodes.faults c.args.nodes.now) (g.N.Nodes.faults c.receive.new.self) (g.N.Nodes.endings c.args.nodes.now) (g.N.Nodes.endings c.receive.new.self)) (Visiting k y) (VisitEnd k y) (g.A.Actor.stands c.args.actor.now) (Answering T k y (still_due c.args.due r)) k first s c.args.queues.now w w r) (sym c.missed.ensures.value)
+    inr (subst (λ r. GoesOn who (IsBroken (g.N.Nodes.faults c.args.nodes.now) (g.N.Nodes.faults c.receive.new.self) (g.N.Nodes.endings c.args.nodes.now) (g.N.Nodes.endings c.receive.new.self)) (Visiting k first y) (VisitEnd k first y) (g.A.Actor.stands c.args.actor.now) (Answering T k y (still_due c.args.due r)) k first s c.args.queues.now w w r) (sym c.missed.ensures.value)
     (unheard who (IsBroken (g.N.Nodes.faults c.args.nodes.now) (g.N.Nodes.faults c.receive.new.self) (g.N.Nodes.endings c.args.nodes.now) (g.N.Nodes.endings c.receive.new.self)) k first b (g.A.Actor.stands c.args.actor.now) (g.met.A.Actor.stands_apart c.args.actor.now) s y (T k) (Answering T k y (still_due c.args.due (missed_by c.in-Err.fault))) far c.args.queues.now w c.in-Err.fault (c.in-Err.ensures.received k far told.0)))
 
 pub returns-in_default-clause-held : goal.returns-in_default-clause-held
 returns-in_default-clause-held g c who is k first s far b there told h =
     let T = g.N.Nodes.tells c.receive.new.self in
     let none = nothing_came far (T k) c.in-Ok.next c.in_default.is (c.in-Ok.ensures.received k far told.0) in
-    inr (went_here who (IsBroken (g.N.Nodes.faults c.args.nodes.now) (g.N.Nodes.faults c.receive.new.self) (g.N.Nodes.endings c.args.nodes.now) (g.N.Nodes.endings c.receive.new.self)) k first b (Visiting k c.args.node) (g.A.Actor.stands c.args.actor.now) (Answering T k c.args.node 0) s far c.args.queues.now (Some (g.O.Sink.written c.args.out.now)) (tt, tt) (none.1, told.1, due_none c.args.node 0 far.answers none.0) h)
+    inr (went_here who (IsBroken (g.N.Nodes.faults c.args.nodes.now) (g.N.Nodes.faults c.receive.new.self) (g.N.Nodes.endings c.args.nodes.now) (g.N.Nodes.endings c.receive.new.self)) k first b (Visiting k first c.args.node) (g.A.Actor.stands c.args.actor.now) (Answering T k c.args.node 0) s far c.args.queues.now (Some (g.O.Sink.written c.args.out.now)) (tt, tt, tt) (none.1, told.1, due_none c.args.node 0 far.answers none.0) h)
 
 pub returns-then-not-is_its-clause-held : goal.returns-then-not-is_its-clause-held
 returns-then-not-is_its-clause-held g c who is k first s far b there told h =
@@ -43,7 +43,7 @@ returns-then-not-is_its-clause-held g c who is k first s far b there told h =
     let T = g.N.Nodes.tells c.receive.new.self in
     let next = next_came far (T k) c.in-Ok.next m c.in-Some.is (c.in-Ok.ensures.received k far told.0) in
     let due = subst (λ (ms : List Msg). AnswersOf y (n + 1) ms) next.first told.2 in
-    inr (went_as who (IsBroken (g.N.Nodes.faults c.args.nodes.now) (g.N.Nodes.faults c.receive.new.self) (g.N.Nodes.endings c.args.nodes.now) (g.N.Nodes.endings c.receive.new.self)) k first b (Visiting k y) ⊥ (g.A.Actor.stands a) (λ now. now ≡ record far { answers = next.rest }) (Answering T k y n) s c.args.queues.now w w (λ x. absurd x)
+    inr (went_as who (IsBroken (g.N.Nodes.faults c.args.nodes.now) (g.N.Nodes.faults c.receive.new.self) (g.N.Nodes.endings c.args.nodes.now) (g.N.Nodes.endings c.receive.new.self)) k first b (Visiting k first y) ⊥ (g.A.Actor.stands a) (λ now. now ≡ record far { answers = next.rest }) (Answering T k y n) s c.args.queues.now w w (λ x. absurd x)
     (λ f e. subst (Answering T k y n) (sym e) (next.told, told.1, rest_due y n m next.rest due))
     (ignored who ⊥ k first b (g.A.Actor.stands a) (g.met.A.Actor.stands_apart a) s y far c.args.queues.now m next.rest w (its_own y (n + 1) m next.rest due) next.first
     (takes_is who.takes (g.A.Actor.own a) s m _ _ is.0 (c.is_its.ensures.taken k s h.actor (its_own y (n + 1) m next.rest due)) c.if-not-is_its.true) h))
@@ -60,7 +60,7 @@ returns-in_err-take-clause-held g c who is k first s far b there told h =
     let due = subst (λ (ms : List Msg). AnswersOf y (n + 1) ms) next.first told.2 in
     let own = its_own y (n + 1) m next.rest due in
     let taken = takes_is who.takes (g.A.Actor.own c.args.actor.now) s m _ _ is.0 (c.is_its.ensures.taken k s h.actor own) c.if-not-is_its.false in
-    rw (p.1, p.2) (inr (goes_as who (IsBroken (g.N.Nodes.faults c.args.nodes.now) (g.N.Nodes.faults c.receive.new.self) (g.N.Nodes.endings c.args.nodes.now) (g.N.Nodes.endings c.receive.new.self)) k first b {R = Bool} (IsDelivered m) (VisitEnd k y) ⊥ (g.A.Actor.stands new) (λ now. now ≡ record far { answers = next.rest }) (Answering T k y n) s c.take.new.queues (Some (g.O.Sink.written c.args.out.now)) (Some (g.O.Sink.written c.take.new.out)) (Err c.in_err-take.field-0.0) (λ x. absurd x)
+    rw (p.1, p.2) (inr (goes_as who (IsBroken (g.N.Nodes.faults c.args.nodes.now) (g.N.Nodes.faults c.receive.new.self) (g.N.Nodes.endings c.args.nodes.now) (g.N.Nodes.endings c.receive.new.self)) k first b {R = Bool} (IsDelivered first m) (VisitEnd k first y) ⊥ (g.A.Actor.stands new) (λ now. now ≡ record far { answers = next.rest }) (Answering T k y n) s c.take.new.queues (Some (g.O.Sink.written c.args.out.now)) (Some (g.O.Sink.written c.take.new.out)) (Err c.in_err-take.field-0.0) (λ x. absurd x)
     (λ f e. subst (Answering T k y n) (sym e) (next.told, told.1, rest_due y n m next.rest due))
     (c.in_err-take.ensures.held who y k first s far next.rest b own taken next.first h)))
 
@@ -75,10 +75,10 @@ returns-then-due-gt0-clause-held g c who is k first s far b there told h =
     let due = subst (λ (ms : List Msg). AnswersOf y (n + 1) ms) next.first told.2 in
     let own = its_own y (n + 1) m next.rest due in
     let taken = takes_is who.takes (g.A.Actor.own c.args.actor.now) s m _ _ is.0 (c.is_its.ensures.taken k s h.actor own) c.if-not-is_its.false in
-    inr (went_such who (IsBroken (g.N.Nodes.faults c.args.nodes.now) (g.N.Nodes.faults c.receive.new.self) (g.N.Nodes.endings c.args.nodes.now) (g.N.Nodes.endings c.receive.new.self)) k first b ⊥ (IsDelivered m) (Visiting k y) (g.A.Actor.stands new) (λ now. now ≡ record far { answers = next.rest }) (Answering T k y n) s c.take.new.queues (Some (g.O.Sink.written c.args.out.now)) (Some (g.O.Sink.written c.take.new.out)) (λ x. absurd x)
+    inr (went_such who (IsBroken (g.N.Nodes.faults c.args.nodes.now) (g.N.Nodes.faults c.receive.new.self) (g.N.Nodes.endings c.args.nodes.now) (g.N.Nodes.endings c.receive.new.self)) k first b ⊥ (IsDelivered first m) (Visiting k first y) (g.A.Actor.stands new) (λ now. now ≡ record far { answers = next.rest }) (Answering T k y n) s c.take.new.queues (Some (g.O.Sink.written c.args.out.now)) (Some (g.O.Sink.written c.take.new.out)) (λ x. absurd x)
     (λ f e. subst (Answering T k y n) (sym e) (next.told, told.1, rest_due y n m next.rest due))
     (c.in_ok-take.ensures.held who y k first s far next.rest b own taken next.first h)
-    (λ es e x. delivered_visits k y m own s es x))
+    (λ es e x. delivered_visits k first y m own s es x))
 
 pub returns-clause-held : goal.returns-clause-held
 returns-clause-held g c who is k first s far b there told h =
@@ -95,11 +95,11 @@ returns-clause-held g c who is k first s far b there told h =
     let own = its_own y (n + 1) m next.rest due in
     let none : n ≡ 0 = omega arith in
     let taken = takes_is who.takes (g.A.Actor.own c.args.actor.now) s m _ _ is.0 (c.is_its.ensures.taken k s h.actor own) c.if-not-is_its.false in
-    let went = went_as who ⊥ k first b (IsDelivered m) ⊥ (g.A.Actor.stands new) (λ now. now ≡ record far { answers = next.rest }) (WithNode T k y) s c.take.new.queues (Some (g.O.Sink.written c.args.out.now)) w (λ x. x)
+    let went = went_as who ⊥ k first b (IsDelivered first m) ⊥ (g.A.Actor.stands new) (λ now. now ≡ record far { answers = next.rest }) (WithNode T k y) s c.take.new.queues (Some (g.O.Sink.written c.args.out.now)) w (λ x. x)
     (λ f e. subst (WithNode T k y) (sym e) ((next.told, none_due y n next.rest none (rest_due y n m next.rest due)), told.1))
     (c.in_ok-take.ensures.held who y k first s far next.rest b own taken next.first h) in
-    then_on who broken k first b {R = Bool} (IsDelivered m) (IsReminded y m) (Visiting k y) (RemindEnd y m) (VisitEnd k y) ⊥ ⊥ (g.N.Nodes.silent c.remind.new.nodes ≡ true) (g.N.Nodes.silent c.remind.new.nodes ≡ true) (g.A.Actor.stands new) (g.A.Actor.stands c.remind.new.actor) (WithNode T k y) (Answering U k y (still_due n c.remind.result)) s c.take.new.queues c.take.new.queues (Some (g.O.Sink.written c.args.out.now)) w w c.remind.result
-    (reminded_joins k y m own) (each_end c.remind.result (λ e. reminded_joins k y m own)) (λ x. absurd x) (λ x. absurd x) (λ quiet. quiet)
+    then_on who broken k first b {R = Bool} (IsDelivered first m) (IsReminded y m) (Visiting k first y) (RemindEnd y m) (VisitEnd k first y) ⊥ ⊥ (g.N.Nodes.silent c.remind.new.nodes ≡ true) (g.N.Nodes.silent c.remind.new.nodes ≡ true) (g.A.Actor.stands new) (g.A.Actor.stands c.remind.new.actor) (WithNode T k y) (Answering U k y (still_due n c.remind.result)) s c.take.new.queues c.take.new.queues (Some (g.O.Sink.written c.args.out.now)) w w c.remind.result
+    (reminded_joins k first y m own) (each_end c.remind.result (λ e. reminded_joins k first y m own)) (λ x. absurd x) (λ x. absurd x) (λ quiet. quiet)
     (λ v. ⊎_elim (λ quiet. inl quiet)
     (λ x. inr (goes_as who ⊥ k first b {R = Bool} (IsReminded y m) (RemindEnd y m) ⊥ (g.A.Actor.stands c.remind.new.actor) (WithNode U k y) (Answering U k y (still_due n c.remind.result)) v.moved.state c.take.new.queues w w c.remind.result (λ z. z) (λ f t. may_answer U k y (still_due n c.remind.result) f t) x))
     (c.remind.ensures.held who (drives_on who (g.A.Actor.own c.args.actor.now) (g.A.Actor.own new) is c.in_ok-take.ensures.itself) k first v.moved.state v.far c.take.new.queues w b there own v.told v.moved.holds)) (inr went)

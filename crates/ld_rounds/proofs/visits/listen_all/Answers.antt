@@ -16,7 +16,7 @@ use Rattle.ld_rounds.proofs.visits.listen_all.Goals as goal
 
 pub answers-init : goal.answers-init
 answers-init g c = (
-  λ who is k first s far b there told h. inr (went_here who (IsBroken (g.N.Nodes.faults c.args.nodes.now) (g.N.Nodes.faults c.args.nodes.now) (g.N.Nodes.endings c.args.nodes.now) (g.N.Nodes.endings c.args.nodes.now)) k first b (Visiting k c.args.node) (g.A.Actor.stands c.args.actor.now) (Answering (g.N.Nodes.tells c.args.nodes.now) k c.args.node c.args.due) s far c.args.queues.now (Some (g.O.Sink.written c.args.out.now)) (tt, tt) told h),
+  λ who is k first s far b there told h. inr (went_here who (IsBroken (g.N.Nodes.faults c.args.nodes.now) (g.N.Nodes.faults c.args.nodes.now) (g.N.Nodes.endings c.args.nodes.now) (g.N.Nodes.endings c.args.nodes.now)) k first b (Visiting k first c.args.node) (g.A.Actor.stands c.args.actor.now) (Answering (g.N.Nodes.tells c.args.nodes.now) k c.args.node c.args.due) s far c.args.queues.now (Some (g.O.Sink.written c.args.out.now)) (tt, tt, tt) told h),
   λ quiet. quiet,
   later_here _ _,
   (omega arith, omega arith),
@@ -40,7 +40,7 @@ answers-preserved g c =
     let new = Some (g.O.Sink.written c.listen-listened.new.out) in
     let more : c.answers.left ≡ n + 1 = omega arith in
     let on : listens_on r ≡ Ok true = sym c.in_ok-is_on.ensures.on ∙ ap (λ x. Ok x) c.if-not-is_on.false in (
-      λ who is k first s far b there told h. subst (λ (m : ℕ). (g.N.Nodes.silent c.listen-listened.new.nodes ≡ true) ⊎ Went who (IsBroken (g.N.Nodes.faults c.args.nodes.now) (g.N.Nodes.faults c.listen-listened.new.nodes) (g.N.Nodes.endings c.args.nodes.now) (g.N.Nodes.endings c.listen-listened.new.nodes)) (Visiting k y) B (Answering U k y m) k first s c.listen-listened.new.queues old new) (on_due n r on)
+      λ who is k first s far b there told h. subst (λ (m : ℕ). (g.N.Nodes.silent c.listen-listened.new.nodes ≡ true) ⊎ Went who (IsBroken (g.N.Nodes.faults c.args.nodes.now) (g.N.Nodes.faults c.listen-listened.new.nodes) (g.N.Nodes.endings c.args.nodes.now) (g.N.Nodes.endings c.listen-listened.new.nodes)) (Visiting k first y) B (Answering U k y m) k first s c.listen-listened.new.queues old new) (on_due n r on)
           (visiting_on who (IsBroken (g.N.Nodes.faults c.args.nodes.now) (g.N.Nodes.faults c.listen-listened.new.nodes) (g.N.Nodes.endings c.args.nodes.now) (g.N.Nodes.endings c.listen-listened.new.nodes)) k first b {R = Bool} y (IsBroken (g.N.Nodes.faults c.args.nodes.now) (g.N.Nodes.faults c.answers.nodes) (g.N.Nodes.endings c.args.nodes.now) (g.N.Nodes.endings c.answers.nodes)) (IsBroken (g.N.Nodes.faults c.answers.nodes) (g.N.Nodes.faults c.listen-listened.new.nodes) (g.N.Nodes.endings c.answers.nodes) (g.N.Nodes.endings c.listen-listened.new.nodes)) (g.N.Nodes.silent c.answers.nodes ≡ true) (g.N.Nodes.silent c.listen-listened.new.nodes ≡ true) A B (Answering T k y c.answers.left) (Answering U k y (still_due n r)) s c.answers.queues c.listen-listened.new.queues old mid new (Ok true) (broken_until _ _ _ _ _ _ c.listen-listened.ensures.counts) (broken_since _ _ _ _ _ _ c.answers.invariant.3)
           c.listen-listened.ensures.silent
           (λ v. listened who (IsBroken (g.N.Nodes.faults c.answers.nodes) (g.N.Nodes.faults c.listen-listened.new.nodes) (g.N.Nodes.endings c.answers.nodes) (g.N.Nodes.endings c.listen-listened.new.nodes)) k first y B v.moved.state c.listen-listened.new.queues mid new (g.N.Nodes.silent c.listen-listened.new.nodes ≡ true) (Answering U k y (still_due n r)) r (Ok true) on (c.listen-listened.ensures.held who (drives_on who (g.A.Actor.own c.args.actor.now) (g.A.Actor.own c.answers.actor) is c.answers.invariant.4) k first v.moved.state v.far b there (subst (λ (m : ℕ). Answering T k y m v.far) more v.told) v.moved.holds))
@@ -69,15 +69,15 @@ returns-then-not-is_on-clause-held g c who is k first s far b there told h =
     let more : c.answers.left ≡ n + 1 = omega arith in
     let on : listens_on r ≡ Ok false = sym c.in_ok-is_on.ensures.on ∙ ap (λ x. Ok x) c.if-not-is_on.true in
     let ended = subst (λ (o : Option Ended). IfSome o (HasEnded old new)) (sym c.in_ok-is_on.ensures.end) (ended_on (g.O.Sink.faults c.args.out.now) (g.O.Sink.faults c.answers.out) (g.O.Sink.faults c.listen-listened.new.out) old mid new c.answers.end r false on c.answers.invariant.7 c.answers.invariant.2 c.listen-listened.ensures.cause c.listen-listened.ensures.wrote) in
-    let went : (g.N.Nodes.silent c.listen-listened.new.nodes ≡ true) ⊎ Went who (IsBroken (g.N.Nodes.faults c.args.nodes.now) (g.N.Nodes.faults c.listen-listened.new.nodes) (g.N.Nodes.endings c.args.nodes.now) (g.N.Nodes.endings c.listen-listened.new.nodes)) (Visiting k y) B (Answering U k y (still_due n r)) k first s c.listen-listened.new.queues old new =
+    let went : (g.N.Nodes.silent c.listen-listened.new.nodes ≡ true) ⊎ Went who (IsBroken (g.N.Nodes.faults c.args.nodes.now) (g.N.Nodes.faults c.listen-listened.new.nodes) (g.N.Nodes.endings c.args.nodes.now) (g.N.Nodes.endings c.listen-listened.new.nodes)) (Visiting k first y) B (Answering U k y (still_due n r)) k first s c.listen-listened.new.queues old new =
     visiting_on who (IsBroken (g.N.Nodes.faults c.args.nodes.now) (g.N.Nodes.faults c.listen-listened.new.nodes) (g.N.Nodes.endings c.args.nodes.now) (g.N.Nodes.endings c.listen-listened.new.nodes)) k first b {R = Bool} y (IsBroken (g.N.Nodes.faults c.args.nodes.now) (g.N.Nodes.faults c.answers.nodes) (g.N.Nodes.endings c.args.nodes.now) (g.N.Nodes.endings c.answers.nodes)) (IsBroken (g.N.Nodes.faults c.answers.nodes) (g.N.Nodes.faults c.listen-listened.new.nodes) (g.N.Nodes.endings c.answers.nodes) (g.N.Nodes.endings c.listen-listened.new.nodes)) (g.N.Nodes.silent c.answers.nodes ≡ true) (g.N.Nodes.silent c.listen-listened.new.nodes ≡ true) A B (Answering T k y c.answers.left) (Answering U k y (still_due n r)) s c.answers.queues c.listen-listened.new.queues old mid new (Ok false) (broken_until _ _ _ _ _ _ c.listen-listened.ensures.counts) (broken_since _ _ _ _ _ _ c.answers.invariant.3)
     c.listen-listened.ensures.silent
     (λ v. listened who (IsBroken (g.N.Nodes.faults c.answers.nodes) (g.N.Nodes.faults c.listen-listened.new.nodes) (g.N.Nodes.endings c.answers.nodes) (g.N.Nodes.endings c.listen-listened.new.nodes)) k first y B v.moved.state c.listen-listened.new.queues mid new (g.N.Nodes.silent c.listen-listened.new.nodes ≡ true) (Answering U k y (still_due n r)) r (Ok false) on (c.listen-listened.ensures.held who (drives_on who (g.A.Actor.own c.args.actor.now) (g.A.Actor.own c.answers.actor) is c.answers.invariant.4) k first v.moved.state v.far b there (subst (λ (m : ℕ). Answering T k y m v.far) more v.told) v.moved.holds))
     (c.answers.invariant.0 who is k first s far b there told h) in
     ⊎_elim (λ quiet. inl quiet)
-    (λ v. inr (subst (λ (z : Result Bool Ended). GoesOn who (IsBroken (g.N.Nodes.faults c.args.nodes.now) (g.N.Nodes.faults c.listen-listened.new.nodes) (g.N.Nodes.endings c.args.nodes.now) (g.N.Nodes.endings c.listen-listened.new.nodes)) (Visiting k y) (VisitEnd k y) B (WithNode U k y) k first s c.listen-listened.new.queues old new z) (sym c.ends_by.ensures)
+    (λ v. inr (subst (λ (z : Result Bool Ended). GoesOn who (IsBroken (g.N.Nodes.faults c.args.nodes.now) (g.N.Nodes.faults c.listen-listened.new.nodes) (g.N.Nodes.endings c.args.nodes.now) (g.N.Nodes.endings c.listen-listened.new.nodes)) (Visiting k first y) (VisitEnd k first y) B (WithNode U k y) k first s c.listen-listened.new.queues old new z) (sym c.ends_by.ensures)
     (ended_goes who (IsBroken (g.N.Nodes.faults c.args.nodes.now) (g.N.Nodes.faults c.listen-listened.new.nodes) (g.N.Nodes.endings c.args.nodes.now) (g.N.Nodes.endings c.listen-listened.new.nodes)) k first y B s c.listen-listened.new.queues old new (WithNode U k y) old new c.listens_on.new.end false ended
-    (went_as who (IsBroken (g.N.Nodes.faults c.args.nodes.now) (g.N.Nodes.faults c.listen-listened.new.nodes) (g.N.Nodes.endings c.args.nodes.now) (g.N.Nodes.endings c.listen-listened.new.nodes)) k first b (Visiting k y) (IsBroken (g.N.Nodes.faults c.args.nodes.now) (g.N.Nodes.faults c.listen-listened.new.nodes) (g.N.Nodes.endings c.args.nodes.now) (g.N.Nodes.endings c.listen-listened.new.nodes)) B (Answering U k y (still_due n r)) (WithNode U k y) s c.listen-listened.new.queues old new (λ l. l) (λ f t. has_answered U k y (still_due n r) f (off_due n r on) t) v)))) went
+    (went_as who (IsBroken (g.N.Nodes.faults c.args.nodes.now) (g.N.Nodes.faults c.listen-listened.new.nodes) (g.N.Nodes.endings c.args.nodes.now) (g.N.Nodes.endings c.listen-listened.new.nodes)) k first b (Visiting k first y) (IsBroken (g.N.Nodes.faults c.args.nodes.now) (g.N.Nodes.faults c.listen-listened.new.nodes) (g.N.Nodes.endings c.args.nodes.now) (g.N.Nodes.endings c.listen-listened.new.nodes)) B (Answering U k y (still_due n r)) (WithNode U k y) s c.listen-listened.new.queues old new (λ l. l) (λ f t. has_answered U k y (still_due n r) f (off_due n r on) t) v)))) went
 
 pub returns-then-not-is_on-clause-cause : goal.returns-then-not-is_on-clause-cause
 returns-then-not-is_on-clause-cause g c =
@@ -143,7 +143,7 @@ returns-clause-held g c who is k first s far b there told h =
     let new = Some (g.O.Sink.written c.answers.out) in
     let none : c.answers.left ≡ 0 = omega arith in
     ⊎_elim (λ quiet. inl quiet)
-    (λ v. inr (subst (λ (z : Result Bool Ended). GoesOn who (IsBroken (g.N.Nodes.faults c.args.nodes.now) (g.N.Nodes.faults c.answers.nodes) (g.N.Nodes.endings c.args.nodes.now) (g.N.Nodes.endings c.answers.nodes)) (Visiting k y) (VisitEnd k y) A (WithNode T k y) k first s c.answers.queues old new z) (sym c.ends_by-2.ensures)
+    (λ v. inr (subst (λ (z : Result Bool Ended). GoesOn who (IsBroken (g.N.Nodes.faults c.args.nodes.now) (g.N.Nodes.faults c.answers.nodes) (g.N.Nodes.endings c.args.nodes.now) (g.N.Nodes.endings c.answers.nodes)) (Visiting k first y) (VisitEnd k first y) A (WithNode T k y) k first s c.answers.queues old new z) (sym c.ends_by-2.ensures)
     (ended_goes who (IsBroken (g.N.Nodes.faults c.args.nodes.now) (g.N.Nodes.faults c.answers.nodes) (g.N.Nodes.endings c.args.nodes.now) (g.N.Nodes.endings c.answers.nodes)) k first y A s c.answers.queues old new (WithNode T k y) old new c.answers.end true c.answers.invariant.7
-    (went_as who (IsBroken (g.N.Nodes.faults c.args.nodes.now) (g.N.Nodes.faults c.answers.nodes) (g.N.Nodes.endings c.args.nodes.now) (g.N.Nodes.endings c.answers.nodes)) k first b (Visiting k y) (IsBroken (g.N.Nodes.faults c.args.nodes.now) (g.N.Nodes.faults c.answers.nodes) (g.N.Nodes.endings c.args.nodes.now) (g.N.Nodes.endings c.answers.nodes)) A (Answering T k y c.answers.left) (WithNode T k y) s c.answers.queues old new (λ l. l) (λ f t. has_answered T k y c.answers.left f none t) v))))
+    (went_as who (IsBroken (g.N.Nodes.faults c.args.nodes.now) (g.N.Nodes.faults c.answers.nodes) (g.N.Nodes.endings c.args.nodes.now) (g.N.Nodes.endings c.answers.nodes)) k first b (Visiting k first y) (IsBroken (g.N.Nodes.faults c.args.nodes.now) (g.N.Nodes.faults c.answers.nodes) (g.N.Nodes.endings c.args.nodes.now) (g.N.Nodes.endings c.answers.nodes)) A (Answering T k y c.answers.left) (WithNode T k y) s c.answers.queues old new (λ l. l) (λ f t. has_answered T k y c.answers.left f none t) v))))
     (c.answers.invariant.0 who is k first s far b there told h)

@@ -43,9 +43,9 @@ returns-in_err-visit-clause-held g c who is k first s far b there told h =
     let p = err_from_is_err_and c.from_residual.result c.from_residual.ensures.1 in
     let ms : List ℕ = members c.args.set.now in
     let ys : List ℕ = take c.nodes.place ms in
-    rw (p.1, p.2) (then_on who (IsBroken (g.N.Nodes.faults c.args.nodes.now) (g.N.Nodes.faults c.visit.new.nodes) (g.N.Nodes.endings c.args.nodes.now) (g.N.Nodes.endings c.visit.new.nodes)) k first b {R = Unit {0}} (AreVisits k first ys (counted (g.N.Nodes.faults c.args.nodes.now) (g.N.Nodes.faults c.nodes.nodes) (g.N.Nodes.endings c.args.nodes.now) (g.N.Nodes.endings c.nodes.nodes))) (IsVisit k first c.in-Some.node (counted (g.N.Nodes.faults c.nodes.nodes) (g.N.Nodes.faults c.visit.new.nodes) (g.N.Nodes.endings c.nodes.nodes) (g.N.Nodes.endings c.visit.new.nodes))) (AreVisits k first (ys ++ c.in-Some.node ∷ []) (counted (g.N.Nodes.faults c.args.nodes.now) (g.N.Nodes.faults c.visit.new.nodes) (g.N.Nodes.endings c.args.nodes.now) (g.N.Nodes.endings c.visit.new.nodes))) (λ e. IsVisiting k c.in-Some.node (counted (g.N.Nodes.faults c.nodes.nodes) (g.N.Nodes.faults c.visit.new.nodes) (g.N.Nodes.endings c.nodes.nodes) (g.N.Nodes.endings c.visit.new.nodes))) (VisitsEnd k first ms (counted (g.N.Nodes.faults c.args.nodes.now) (g.N.Nodes.faults c.visit.new.nodes) (g.N.Nodes.endings c.args.nodes.now) (g.N.Nodes.endings c.visit.new.nodes))) (IsBroken (g.N.Nodes.faults c.args.nodes.now) (g.N.Nodes.faults c.nodes.nodes) (g.N.Nodes.endings c.args.nodes.now) (g.N.Nodes.endings c.nodes.nodes)) (IsBroken (g.N.Nodes.faults c.nodes.nodes) (g.N.Nodes.faults c.visit.new.nodes) (g.N.Nodes.endings c.nodes.nodes) (g.N.Nodes.endings c.visit.new.nodes)) (g.N.Nodes.silent c.nodes.nodes ≡ true) (g.N.Nodes.silent c.visit.new.nodes ≡ true) (g.A.Actor.stands c.nodes.actor) (g.A.Actor.stands c.visit.new.actor) (AllTaken (g.N.Nodes.tells c.nodes.nodes k)) (AllTaken (g.N.Nodes.tells c.visit.new.nodes k)) s
+    rw (p.1, p.2) (then_on who (IsBroken (g.N.Nodes.faults c.args.nodes.now) (g.N.Nodes.faults c.visit.new.nodes) (g.N.Nodes.endings c.args.nodes.now) (g.N.Nodes.endings c.visit.new.nodes)) k first b {R = Unit {0}} (AreVisits k first ys (counted (g.N.Nodes.faults c.args.nodes.now) (g.N.Nodes.faults c.nodes.nodes) (g.N.Nodes.endings c.args.nodes.now) (g.N.Nodes.endings c.nodes.nodes))) (IsVisit k first c.in-Some.node (counted (g.N.Nodes.faults c.nodes.nodes) (g.N.Nodes.faults c.visit.new.nodes) (g.N.Nodes.endings c.nodes.nodes) (g.N.Nodes.endings c.visit.new.nodes))) (AreVisits k first (ys ++ c.in-Some.node ∷ []) (counted (g.N.Nodes.faults c.args.nodes.now) (g.N.Nodes.faults c.visit.new.nodes) (g.N.Nodes.endings c.args.nodes.now) (g.N.Nodes.endings c.visit.new.nodes))) (λ e. IsVisiting k first c.in-Some.node (counted (g.N.Nodes.faults c.nodes.nodes) (g.N.Nodes.faults c.visit.new.nodes) (g.N.Nodes.endings c.nodes.nodes) (g.N.Nodes.endings c.visit.new.nodes))) (VisitsEnd k first ms (counted (g.N.Nodes.faults c.args.nodes.now) (g.N.Nodes.faults c.visit.new.nodes) (g.N.Nodes.endings c.args.nodes.now) (g.N.Nodes.endings c.visit.new.nodes))) (IsBroken (g.N.Nodes.faults c.args.nodes.now) (g.N.Nodes.faults c.nodes.nodes) (g.N.Nodes.endings c.args.nodes.now) (g.N.Nodes.endings c.nodes.nodes)) (IsBroken (g.N.Nodes.faults c.nodes.nodes) (g.N.Nodes.faults c.visit.new.nodes) (g.N.Nodes.endings c.nodes.nodes) (g.N.Nodes.endings c.visit.new.nodes)) (g.N.Nodes.silent c.nodes.nodes ≡ true) (g.N.Nodes.silent c.visit.new.nodes ≡ true) (g.A.Actor.stands c.nodes.actor) (g.A.Actor.stands c.visit.new.actor) (AllTaken (g.N.Nodes.tells c.nodes.nodes k)) (AllTaken (g.N.Nodes.tells c.visit.new.nodes k)) s
     c.nodes.queues c.visit.new.queues (Some (g.O.Sink.written c.args.out.now)) (Some (g.O.Sink.written c.nodes.out)) (Some (g.O.Sink.written c.visit.new.out)) (Err c.in_err-visit.field-0.0) (visits_push k first ys c.in-Some.node (g.N.Nodes.faults c.args.nodes.now) (g.N.Nodes.faults c.nodes.nodes) (g.N.Nodes.faults c.visit.new.nodes) (g.N.Nodes.endings c.args.nodes.now) (g.N.Nodes.endings c.nodes.nodes) (g.N.Nodes.endings c.visit.new.nodes) c.nodes.invariant.3 c.in_err-visit.ensures.counts)
-    (subst (λ (zs : List ℕ). Joins k (AreVisits k first ys (counted (g.N.Nodes.faults c.args.nodes.now) (g.N.Nodes.faults c.nodes.nodes) (g.N.Nodes.endings c.args.nodes.now) (g.N.Nodes.endings c.nodes.nodes))) (IsVisiting k c.in-Some.node (counted (g.N.Nodes.faults c.nodes.nodes) (g.N.Nodes.faults c.visit.new.nodes) (g.N.Nodes.endings c.nodes.nodes) (g.N.Nodes.endings c.visit.new.nodes))) (ArePartVisits k first zs (counted (g.N.Nodes.faults c.args.nodes.now) (g.N.Nodes.faults c.visit.new.nodes) (g.N.Nodes.endings c.args.nodes.now) (g.N.Nodes.endings c.visit.new.nodes)))) (split_at ms c.nodes.place c.in-Some.node (sym c.in-Some.ensures.node))
+    (subst (λ (zs : List ℕ). Joins k (AreVisits k first ys (counted (g.N.Nodes.faults c.args.nodes.now) (g.N.Nodes.faults c.nodes.nodes) (g.N.Nodes.endings c.args.nodes.now) (g.N.Nodes.endings c.nodes.nodes))) (IsVisiting k first c.in-Some.node (counted (g.N.Nodes.faults c.nodes.nodes) (g.N.Nodes.faults c.visit.new.nodes) (g.N.Nodes.endings c.nodes.nodes) (g.N.Nodes.endings c.visit.new.nodes))) (ArePartVisits k first zs (counted (g.N.Nodes.faults c.args.nodes.now) (g.N.Nodes.faults c.visit.new.nodes) (g.N.Nodes.endings c.args.nodes.now) (g.N.Nodes.endings c.visit.new.nodes)))) (split_at ms c.nodes.place c.in-Some.node (sym c.in-Some.ensures.node))
     (visits_part k first ys (drop (c.nodes.place + 1) ms) c.in-Some.node (g.N.Nodes.faults c.args.nodes.now) (g.N.Nodes.faults c.nodes.nodes) (g.N.Nodes.faults c.visit.new.nodes) (g.N.Nodes.endings c.args.nodes.now) (g.N.Nodes.endings c.nodes.nodes) (g.N.Nodes.endings c.visit.new.nodes) c.nodes.invariant.3 c.in_err-visit.ensures.counts)) (broken_until _ _ _ _ _ _ c.in_err-visit.ensures.counts) (broken_since _ _ _ _ _ _ c.nodes.invariant.3)
     c.in_err-visit.ensures.silent
     (λ w. c.in_err-visit.ensures.held who (drives_on who (g.A.Actor.own c.args.actor.now) (g.A.Actor.own c.nodes.actor) is c.nodes.invariant.5) k first w.moved.state w.far b (all-slice_get (λ y. has_node k y ≡ true) (members c.args.set.now) c.nodes.place c.in-Some.node there (sym c.in-Some.ensures.node)) w.told w.moved.holds)
@@ -75,7 +75,7 @@ nodes-preserved g c =
     let within = slice_get_within (members c.args.set.now) c.nodes.place c.in-Some.node (sym c.in-Some.ensures.node) in
     let more = take_more ms c.nodes.place c.in-Some.node within ∙ ap (λ y. take c.nodes.place ms ++ y ∷ []) (get_or_from_slice_get ms c.nodes.place c.in-Some.node c.in-Some.node (sym c.in-Some.ensures.node)) in (
       λ who is k first s far b there told h. let ys : List ℕ = take c.nodes.place ms in
-          then_on who (IsBroken (g.N.Nodes.faults c.args.nodes.now) (g.N.Nodes.faults c.visit.new.nodes) (g.N.Nodes.endings c.args.nodes.now) (g.N.Nodes.endings c.visit.new.nodes)) k first b {R = Unit {0}} (AreVisits k first ys (counted (g.N.Nodes.faults c.args.nodes.now) (g.N.Nodes.faults c.nodes.nodes) (g.N.Nodes.endings c.args.nodes.now) (g.N.Nodes.endings c.nodes.nodes))) (IsVisit k first c.in-Some.node (counted (g.N.Nodes.faults c.nodes.nodes) (g.N.Nodes.faults c.visit.new.nodes) (g.N.Nodes.endings c.nodes.nodes) (g.N.Nodes.endings c.visit.new.nodes))) (AreVisits k first (take (c.nodes.place + 1) ms) (counted (g.N.Nodes.faults c.args.nodes.now) (g.N.Nodes.faults c.visit.new.nodes) (g.N.Nodes.endings c.args.nodes.now) (g.N.Nodes.endings c.visit.new.nodes))) (λ e. IsVisiting k c.in-Some.node (counted (g.N.Nodes.faults c.nodes.nodes) (g.N.Nodes.faults c.visit.new.nodes) (g.N.Nodes.endings c.nodes.nodes) (g.N.Nodes.endings c.visit.new.nodes))) (VisitsEnd k first ms (counted (g.N.Nodes.faults c.args.nodes.now) (g.N.Nodes.faults c.visit.new.nodes) (g.N.Nodes.endings c.args.nodes.now) (g.N.Nodes.endings c.visit.new.nodes))) (IsBroken (g.N.Nodes.faults c.args.nodes.now) (g.N.Nodes.faults c.nodes.nodes) (g.N.Nodes.endings c.args.nodes.now) (g.N.Nodes.endings c.nodes.nodes)) (IsBroken (g.N.Nodes.faults c.nodes.nodes) (g.N.Nodes.faults c.visit.new.nodes) (g.N.Nodes.endings c.nodes.nodes) (g.N.Nodes.endings c.visit.new.nodes)) (g.N.Nodes.silent c.nodes.nodes ≡ true) (g.N.Nodes.silent c.visit.new.nodes ≡ true) (g.A.Actor.stands c.nodes.actor) (g.A.Actor.stands c.visit.new.actor) (AllTaken (g.N.Nodes.tells c.nodes.nodes k)) (AllTaken (g.N.Nodes.tells c.visit.new.nodes k)) s
+          then_on who (IsBroken (g.N.Nodes.faults c.args.nodes.now) (g.N.Nodes.faults c.visit.new.nodes) (g.N.Nodes.endings c.args.nodes.now) (g.N.Nodes.endings c.visit.new.nodes)) k first b {R = Unit {0}} (AreVisits k first ys (counted (g.N.Nodes.faults c.args.nodes.now) (g.N.Nodes.faults c.nodes.nodes) (g.N.Nodes.endings c.args.nodes.now) (g.N.Nodes.endings c.nodes.nodes))) (IsVisit k first c.in-Some.node (counted (g.N.Nodes.faults c.nodes.nodes) (g.N.Nodes.faults c.visit.new.nodes) (g.N.Nodes.endings c.nodes.nodes) (g.N.Nodes.endings c.visit.new.nodes))) (AreVisits k first (take (c.nodes.place + 1) ms) (counted (g.N.Nodes.faults c.args.nodes.now) (g.N.Nodes.faults c.visit.new.nodes) (g.N.Nodes.endings c.args.nodes.now) (g.N.Nodes.endings c.visit.new.nodes))) (λ e. IsVisiting k first c.in-Some.node (counted (g.N.Nodes.faults c.nodes.nodes) (g.N.Nodes.faults c.visit.new.nodes) (g.N.Nodes.endings c.nodes.nodes) (g.N.Nodes.endings c.visit.new.nodes))) (VisitsEnd k first ms (counted (g.N.Nodes.faults c.args.nodes.now) (g.N.Nodes.faults c.visit.new.nodes) (g.N.Nodes.endings c.args.nodes.now) (g.N.Nodes.endings c.visit.new.nodes))) (IsBroken (g.N.Nodes.faults c.args.nodes.now) (g.N.Nodes.faults c.nodes.nodes) (g.N.Nodes.endings c.args.nodes.now) (g.N.Nodes.endings c.nodes.nodes)) (IsBroken (g.N.Nodes.faults c.nodes.nodes) (g.N.Nodes.faults c.visit.new.nodes) (g.N.Nodes.endings c.nodes.nodes) (g.N.Nodes.endings c.visit.new.nodes)) (g.N.Nodes.silent c.nodes.nodes ≡ true) (g.N.Nodes.silent c.visit.new.nodes ≡ true) (g.A.Actor.stands c.nodes.actor) (g.A.Actor.stands c.visit.new.actor) (AllTaken (g.N.Nodes.tells c.nodes.nodes k)) (AllTaken (g.N.Nodes.tells c.visit.new.nodes k)) s
           c.nodes.queues c.visit.new.queues (Some (g.O.Sink.written c.args.out.now)) (Some (g.O.Sink.written c.nodes.out)) (Some (g.O.Sink.written c.visit.new.out)) (Ok tt)
           (subst (λ (zs : List ℕ). Joins k (AreVisits k first ys (counted (g.N.Nodes.faults c.args.nodes.now) (g.N.Nodes.faults c.nodes.nodes) (g.N.Nodes.endings c.args.nodes.now) (g.N.Nodes.endings c.nodes.nodes))) (IsVisit k first c.in-Some.node (counted (g.N.Nodes.faults c.nodes.nodes) (g.N.Nodes.faults c.visit.new.nodes) (g.N.Nodes.endings c.nodes.nodes) (g.N.Nodes.endings c.visit.new.nodes))) (AreVisits k first zs (counted (g.N.Nodes.faults c.args.nodes.now) (g.N.Nodes.faults c.visit.new.nodes) (g.N.Nodes.endings c.args.nodes.now) (g.N.Nodes.endings c.visit.new.nodes)))) (sym more) (visits_push k first ys c.in-Some.node (g.N.Nodes.faults c.args.nodes.now) (g.N.Nodes.faults c.nodes.nodes) (g.N.Nodes.faults c.visit.new.nodes) (g.N.Nodes.endings c.args.nodes.now) (g.N.Nodes.endings c.nodes.nodes) (g.N.Nodes.endings c.visit.new.nodes) c.nodes.invariant.3 c.in_ok-visit.ensures.counts)) tt
           (broken_until _ _ _ _ _ _ c.in_ok-visit.ensures.counts) (broken_since _ _ _ _ _ _ c.nodes.invariant.3) c.in_ok-visit.ensures.silent

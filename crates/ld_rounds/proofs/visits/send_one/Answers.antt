@@ -12,7 +12,7 @@ returns-in-Err-clause-held g c who k first s far qs rest due w b told h q =
     let y = c.args.node in
     let T = g.N.Nodes.tells c.send.new.self in
     let to = first_waits first s.network qs far.answers y c.args.message.now rest h.news c.number.ensures.bounds q in
-    subst (λ r. (g.N.Nodes.silent c.send.new.self ≡ true) ⊎ GoesOn who (IsBroken (g.N.Nodes.faults c.args.nodes.now) (g.N.Nodes.faults c.send.new.self) (g.N.Nodes.endings c.args.nodes.now) (g.N.Nodes.endings c.send.new.self)) (Visiting k y) (VisitEnd k y) (g.A.Actor.stands a) (Answering T k y (due_with due r)) k first s (set qs y rest) w w r) (sym c.unsent.ensures.value)
+    subst (λ r. (g.N.Nodes.silent c.send.new.self ≡ true) ⊎ GoesOn who (IsBroken (g.N.Nodes.faults c.args.nodes.now) (g.N.Nodes.faults c.send.new.self) (g.N.Nodes.endings c.args.nodes.now) (g.N.Nodes.endings c.send.new.self)) (Visiting k first y) (VisitEnd k first y) (g.A.Actor.stands a) (Answering T k y (due_with due r)) k first s (set qs y rest) w w r) (sym c.unsent.ensures.value)
     (unsent who (IsBroken (g.N.Nodes.faults c.args.nodes.now) (g.N.Nodes.faults c.send.new.self) (g.N.Nodes.endings c.args.nodes.now) (g.N.Nodes.endings c.send.new.self)) k first b (g.A.Actor.stands a) (g.met.A.Actor.stands_apart a) s T far y due told.1 told.2 c.number.ensures.bounds w (g.N.Nodes.silent c.send.new.self) c.args.message.now rest qs c.in-Err.fault (g.N.Nodes.faults c.args.nodes.now) (g.N.Nodes.faults c.send.new.self) c.in-Err.ensures.counts (λ r. inl r) h q
     (c.in-Err.ensures.sent k far told.0 y told.1 to))
 

@@ -14,7 +14,7 @@ use Rattle.ld_rounds.proofs.visits.send_some.Goals as goal
 
 pub messages-init : goal.messages-init
 messages-init g c = (
-  λ who k first s far w b told h. inr (went_here who (IsBroken (g.N.Nodes.faults c.args.nodes.now) (g.N.Nodes.faults c.args.nodes.now) (g.N.Nodes.endings c.args.nodes.now) (g.N.Nodes.endings c.args.nodes.now)) k first b (Visiting k c.args.node) (g.A.Actor.stands c.args.actor.now) (Answering (g.N.Nodes.tells c.args.nodes.now) k c.args.node 0) s far c.args.queues.now w (tt, tt) (may_answer (g.N.Nodes.tells c.args.nodes.now) k c.args.node 0 far told) h),
+  λ who k first s far w b told h. inr (went_here who (IsBroken (g.N.Nodes.faults c.args.nodes.now) (g.N.Nodes.faults c.args.nodes.now) (g.N.Nodes.endings c.args.nodes.now) (g.N.Nodes.endings c.args.nodes.now)) k first b (Visiting k first c.args.node) (g.A.Actor.stands c.args.actor.now) (Answering (g.N.Nodes.tells c.args.nodes.now) k c.args.node 0) s far c.args.queues.now w (tt, tt, tt) (may_answer (g.N.Nodes.tells c.args.nodes.now) k c.args.node 0 far told) h),
   λ quiet. quiet,
   (omega arith, omega arith),
   refl,
@@ -30,8 +30,8 @@ messages-preserved g c =
     let U = g.N.Nodes.tells c.send_one.new.nodes in
     let front = fronted (queue_of c.messages.queues y) c.in-Some.message (sym c.in-Some.is ∙ c.next.ensures.first) in
     let few = subst (λ (o : Option ℕ). IfSome o (λ n. n ≤ 1)) c.in-Some-2.is c.in_ok-answers.ensures.few in (
-      λ who k first s far w b told h. subst (λ (o : Option ℕ). (g.N.Nodes.silent c.send_one.new.nodes ≡ true) ⊎ Went who (IsBroken (g.N.Nodes.faults c.args.nodes.now) (g.N.Nodes.faults c.send_one.new.nodes) (g.N.Nodes.endings c.args.nodes.now) (g.N.Nodes.endings c.send_one.new.nodes)) (Visiting k y) A (Answering U k y (due_with c.messages.due (Ok o))) k first s c.next.new.self w w) c.in-Some-2.is
-          (subst (λ (qs : List (List Msg)). (g.N.Nodes.silent c.send_one.new.nodes ≡ true) ⊎ Went who (IsBroken (g.N.Nodes.faults c.args.nodes.now) (g.N.Nodes.faults c.send_one.new.nodes) (g.N.Nodes.endings c.args.nodes.now) (g.N.Nodes.endings c.send_one.new.nodes)) (Visiting k y) A (Answering U k y (due_with c.messages.due (Ok c.in_ok-answers.field-0))) k first s qs w w) (sym c.next.ensures.left)
+      λ who k first s far w b told h. subst (λ (o : Option ℕ). (g.N.Nodes.silent c.send_one.new.nodes ≡ true) ⊎ Went who (IsBroken (g.N.Nodes.faults c.args.nodes.now) (g.N.Nodes.faults c.send_one.new.nodes) (g.N.Nodes.endings c.args.nodes.now) (g.N.Nodes.endings c.send_one.new.nodes)) (Visiting k first y) A (Answering U k y (due_with c.messages.due (Ok o))) k first s c.next.new.self w w) c.in-Some-2.is
+          (subst (λ (qs : List (List Msg)). (g.N.Nodes.silent c.send_one.new.nodes ≡ true) ⊎ Went who (IsBroken (g.N.Nodes.faults c.args.nodes.now) (g.N.Nodes.faults c.send_one.new.nodes) (g.N.Nodes.endings c.args.nodes.now) (g.N.Nodes.endings c.send_one.new.nodes)) (Visiting k first y) A (Answering U k y (due_with c.messages.due (Ok c.in_ok-answers.field-0))) k first s qs w w) (sym c.next.ensures.left)
           (visiting_on who (IsBroken (g.N.Nodes.faults c.args.nodes.now) (g.N.Nodes.faults c.send_one.new.nodes) (g.N.Nodes.endings c.args.nodes.now) (g.N.Nodes.endings c.send_one.new.nodes)) k first b {R = Option ℕ} y (IsBroken (g.N.Nodes.faults c.args.nodes.now) (g.N.Nodes.faults c.messages.nodes) (g.N.Nodes.endings c.args.nodes.now) (g.N.Nodes.endings c.messages.nodes)) (IsBroken (g.N.Nodes.faults c.messages.nodes) (g.N.Nodes.faults c.send_one.new.nodes) (g.N.Nodes.endings c.messages.nodes) (g.N.Nodes.endings c.send_one.new.nodes)) (g.N.Nodes.silent c.messages.nodes ≡ true) (g.N.Nodes.silent c.send_one.new.nodes ≡ true) A A (Answering T k y c.messages.due) (Answering U k y (due_with c.messages.due (Ok c.in_ok-answers.field-0))) s c.messages.queues (set c.messages.queues y (behind (queue_of c.messages.queues y))) w w w (Ok c.in_ok-answers.field-0) (broken_until _ _ _ _ _ _ c.in_ok-answers.ensures.counts) (broken_since _ _ _ _ _ _ c.messages.invariant.2)
           c.in_ok-answers.ensures.silent
           (λ v. c.in_ok-answers.ensures.held who k first v.moved.state v.far c.messages.queues (behind (queue_of c.messages.queues y)) c.messages.due w b v.told v.moved.holds front)
@@ -45,7 +45,7 @@ messages-preserved g c =
 
 pub returns-in_default-clause-held : goal.returns-in_default-clause-held
 returns-in_default-clause-held g c who k first s far w b told h =
-    subst (λ (qs : List (List Msg)). (g.N.Nodes.silent c.messages.nodes ≡ true) ⊎ Went who (IsBroken (g.N.Nodes.faults c.args.nodes.now) (g.N.Nodes.faults c.messages.nodes) (g.N.Nodes.endings c.args.nodes.now) (g.N.Nodes.endings c.messages.nodes)) (Visiting k c.args.node) (g.A.Actor.stands c.args.actor.now) (Answering (g.N.Nodes.tells c.messages.nodes) k c.args.node c.messages.due) k first s qs w w)
+    subst (λ (qs : List (List Msg)). (g.N.Nodes.silent c.messages.nodes ≡ true) ⊎ Went who (IsBroken (g.N.Nodes.faults c.args.nodes.now) (g.N.Nodes.faults c.messages.nodes) (g.N.Nodes.endings c.args.nodes.now) (g.N.Nodes.endings c.messages.nodes)) (Visiting k first c.args.node) (g.A.Actor.stands c.args.actor.now) (Answering (g.N.Nodes.tells c.messages.nodes) k c.args.node c.messages.due) k first s qs w w)
     (sym (not_taken c.messages.queues c.next.new.self c.args.node (sym c.in_default.is ∙ c.next.ensures.first) c.next.ensures.left))
     (c.messages.invariant.0 who k first s far w b told h)
 
@@ -60,7 +60,7 @@ returns-in_err-answers-clause-held g c who k first s far w b told h =
     let T = g.N.Nodes.tells c.messages.nodes in
     let U = g.N.Nodes.tells c.send_one.new.nodes in
     let front = fronted (queue_of c.messages.queues y) c.in-Some.message (sym c.in-Some.is ∙ c.next.ensures.first) in
-    rw (p.1, p.2) (subst (λ (qs : List (List Msg)). (g.N.Nodes.silent c.send_one.new.nodes ≡ true) ⊎ GoesOn {T = Option ℕ} who (IsBroken (g.N.Nodes.faults c.args.nodes.now) (g.N.Nodes.faults c.send_one.new.nodes) (g.N.Nodes.endings c.args.nodes.now) (g.N.Nodes.endings c.send_one.new.nodes)) (Visiting k y) (VisitEnd k y) A (Answering U k y 0) k first s qs w w (Err c.in_err-answers.field-0.0)) (sym c.next.ensures.left)
+    rw (p.1, p.2) (subst (λ (qs : List (List Msg)). (g.N.Nodes.silent c.send_one.new.nodes ≡ true) ⊎ GoesOn {T = Option ℕ} who (IsBroken (g.N.Nodes.faults c.args.nodes.now) (g.N.Nodes.faults c.send_one.new.nodes) (g.N.Nodes.endings c.args.nodes.now) (g.N.Nodes.endings c.send_one.new.nodes)) (Visiting k first y) (VisitEnd k first y) A (Answering U k y 0) k first s qs w w (Err c.in_err-answers.field-0.0)) (sym c.next.ensures.left)
     (visiting_on who (IsBroken (g.N.Nodes.faults c.args.nodes.now) (g.N.Nodes.faults c.send_one.new.nodes) (g.N.Nodes.endings c.args.nodes.now) (g.N.Nodes.endings c.send_one.new.nodes)) k first b {R = Option ℕ} y (IsBroken (g.N.Nodes.faults c.args.nodes.now) (g.N.Nodes.faults c.messages.nodes) (g.N.Nodes.endings c.args.nodes.now) (g.N.Nodes.endings c.messages.nodes)) (IsBroken (g.N.Nodes.faults c.messages.nodes) (g.N.Nodes.faults c.send_one.new.nodes) (g.N.Nodes.endings c.messages.nodes) (g.N.Nodes.endings c.send_one.new.nodes)) (g.N.Nodes.silent c.messages.nodes ≡ true) (g.N.Nodes.silent c.send_one.new.nodes ≡ true) A A (Answering T k y c.messages.due) (Answering U k y (due_with c.messages.due (Err c.in_err-answers.field-0.0))) s c.messages.queues (set c.messages.queues y (behind (queue_of c.messages.queues y))) w w w (Err c.in_err-answers.field-0.0) (broken_until _ _ _ _ _ _ c.in_err-answers.ensures.counts) (broken_since _ _ _ _ _ _ c.messages.invariant.2)
     c.in_err-answers.ensures.silent
     (λ v. c.in_err-answers.ensures.held who k first v.moved.state v.far c.messages.queues (behind (queue_of c.messages.queues y)) c.messages.due w b v.told v.moved.holds front)
@@ -81,8 +81,8 @@ returns-in_default-2-clause-held g c who k first s far w b told h =
     let T = g.N.Nodes.tells c.messages.nodes in
     let U = g.N.Nodes.tells c.send_one.new.nodes in
     let front = fronted (queue_of c.messages.queues y) c.in-Some.message (sym c.in-Some.is ∙ c.next.ensures.first) in
-    subst (λ (o : Option ℕ). (g.N.Nodes.silent c.send_one.new.nodes ≡ true) ⊎ Went who (IsBroken (g.N.Nodes.faults c.args.nodes.now) (g.N.Nodes.faults c.send_one.new.nodes) (g.N.Nodes.endings c.args.nodes.now) (g.N.Nodes.endings c.send_one.new.nodes)) (Visiting k y) A (Answering U k y (due_with c.messages.due (Ok o))) k first s c.next.new.self w w) c.in_default-2.is
-    (subst (λ (qs : List (List Msg)). (g.N.Nodes.silent c.send_one.new.nodes ≡ true) ⊎ Went who (IsBroken (g.N.Nodes.faults c.args.nodes.now) (g.N.Nodes.faults c.send_one.new.nodes) (g.N.Nodes.endings c.args.nodes.now) (g.N.Nodes.endings c.send_one.new.nodes)) (Visiting k y) A (Answering U k y (due_with c.messages.due (Ok c.in_ok-answers.field-0))) k first s qs w w) (sym c.next.ensures.left)
+    subst (λ (o : Option ℕ). (g.N.Nodes.silent c.send_one.new.nodes ≡ true) ⊎ Went who (IsBroken (g.N.Nodes.faults c.args.nodes.now) (g.N.Nodes.faults c.send_one.new.nodes) (g.N.Nodes.endings c.args.nodes.now) (g.N.Nodes.endings c.send_one.new.nodes)) (Visiting k first y) A (Answering U k y (due_with c.messages.due (Ok o))) k first s c.next.new.self w w) c.in_default-2.is
+    (subst (λ (qs : List (List Msg)). (g.N.Nodes.silent c.send_one.new.nodes ≡ true) ⊎ Went who (IsBroken (g.N.Nodes.faults c.args.nodes.now) (g.N.Nodes.faults c.send_one.new.nodes) (g.N.Nodes.endings c.args.nodes.now) (g.N.Nodes.endings c.send_one.new.nodes)) (Visiting k first y) A (Answering U k y (due_with c.messages.due (Ok c.in_ok-answers.field-0))) k first s qs w w) (sym c.next.ensures.left)
     (visiting_on who (IsBroken (g.N.Nodes.faults c.args.nodes.now) (g.N.Nodes.faults c.send_one.new.nodes) (g.N.Nodes.endings c.args.nodes.now) (g.N.Nodes.endings c.send_one.new.nodes)) k first b {R = Option ℕ} y (IsBroken (g.N.Nodes.faults c.args.nodes.now) (g.N.Nodes.faults c.messages.nodes) (g.N.Nodes.endings c.args.nodes.now) (g.N.Nodes.endings c.messages.nodes)) (IsBroken (g.N.Nodes.faults c.messages.nodes) (g.N.Nodes.faults c.send_one.new.nodes) (g.N.Nodes.endings c.messages.nodes) (g.N.Nodes.endings c.send_one.new.nodes)) (g.N.Nodes.silent c.messages.nodes ≡ true) (g.N.Nodes.silent c.send_one.new.nodes ≡ true) A A (Answering T k y c.messages.due) (Answering U k y (due_with c.messages.due (Ok c.in_ok-answers.field-0))) s c.messages.queues (set c.messages.queues y (behind (queue_of c.messages.queues y))) w w w (Ok c.in_ok-answers.field-0) (broken_until _ _ _ _ _ _ c.in_ok-answers.ensures.counts) (broken_since _ _ _ _ _ _ c.messages.invariant.2)
     c.in_ok-answers.ensures.silent
     (λ v. c.in_ok-answers.ensures.held who k first v.moved.state v.far c.messages.queues (behind (queue_of c.messages.queues y)) c.messages.due w b v.told v.moved.holds front)

@@ -11,7 +11,7 @@ use Rattle.ld_rounds.proofs.visits.send_some.Given as goal
 abbrev pub invariant-messages : goal.invariant-messages
 invariant-messages g l =
     ((who : Driver) (c : Config) (first : ℕ) (s : State) (far : Far) (written : Option (List ℕ)) → IsInBounds c → WithNode (g.N.Nodes.tells l.fn.nodes) c l.node far → Holds (g.A.Actor.stands l.actor) c first s far l.fn.queues
-    → (g.N.Nodes.silent l.nodes ≡ true) ⊎ Went who (IsBroken (g.N.Nodes.faults l.fn.nodes) (g.N.Nodes.faults l.nodes) (g.N.Nodes.endings l.fn.nodes) (g.N.Nodes.endings l.nodes)) (Visiting c l.node) (g.A.Actor.stands l.actor) (Answering (g.N.Nodes.tells l.nodes) c l.node l.due) c first s l.queues written written)
+    → (g.N.Nodes.silent l.nodes ≡ true) ⊎ Went who (IsBroken (g.N.Nodes.faults l.fn.nodes) (g.N.Nodes.faults l.nodes) (g.N.Nodes.endings l.fn.nodes) (g.N.Nodes.endings l.nodes)) (Visiting c first l.node) (g.A.Actor.stands l.actor) (Answering (g.N.Nodes.tells l.nodes) c l.node l.due) c first s l.queues written written)
     × (g.N.Nodes.silent l.fn.nodes ≡ true → g.N.Nodes.silent l.nodes ≡ true)
     × AreLater (g.N.Nodes.faults l.fn.nodes) (g.N.Nodes.faults l.nodes) (g.N.Nodes.endings l.fn.nodes) (g.N.Nodes.endings l.nodes)
     × (g.N.Nodes.off l.nodes ≡ g.N.Nodes.off l.fn.nodes)

@@ -8,7 +8,7 @@ use Rattle.ld_rounds.proofs.Listening.{told_writes}
 use Rattle.ld_rounds.proofs.visits.take.Goals as goal
 
 pub returns-in_default-clause-held : goal.returns-in_default-clause-held
-returns-in_default-clause-held g c who y k first s far rest b of taken e h = stopped_here who ⊥ k first b (VisitEnd k y Memory) s (Some (g.O.Sink.written c.args.out.now)) (tt, tt)
+returns-in_default-clause-held g c who y k first s far rest b of taken e h = stopped_here who ⊥ k first b (VisitEnd k first y Memory) s (Some (g.O.Sink.written c.args.out.now)) (tt, tt, tt)
 
 pub returns-clause-held : goal.returns-clause-held
 returns-clause-held g c who y k first s far rest b of taken e h =
@@ -18,7 +18,7 @@ returns-clause-held g c who y k first s far rest b of taken e h =
     let m = c.args.answer.now in
     let moved = hear_first who ⊥ k first b (g.A.Actor.stands old) (g.met.A.Actor.stands_apart old) (g.A.Actor.stands new) (g.met.A.Actor.stands_apart new) s far c.args.queues.now m rest heard.lines.items heard.sends h e taken
     (λ t sound there. c.in-Ok.ensures.acted k t b sound there) in
-    goes_told who ⊥ k first b (IsDelivered m) (VisitEnd k y) (g.A.Actor.stands new) s (record far { answers = rest }) c.args.queues.now c.tell.new.queues (Some (g.O.Sink.written c.args.out.now)) (Some (g.O.Sink.written c.tell.new.out)) heard moved (λ e es x. delivered_visits k y m of s es x) c.tell.result (unframed heard.lines.items heard.end c.in-Ok.ensures.said) c.tell.ensures.told
+    goes_told who ⊥ k first b (IsDelivered first m) (VisitEnd k first y) (g.A.Actor.stands new) s (record far { answers = rest }) c.args.queues.now c.tell.new.queues (Some (g.O.Sink.written c.args.out.now)) (Some (g.O.Sink.written c.tell.new.out)) heard moved (λ e es x. delivered_visits k first y m of s es x) c.tell.result (unframed heard.lines.items heard.end c.in-Ok.ensures.said) c.tell.ensures.told
 
 pub returns-clause-wrote : goal.returns-clause-wrote
 returns-clause-wrote g c = told_writes c.in-Ok.heard c.args.queues.now c.tell.new.queues (Some (g.O.Sink.written c.args.out.now)) (Some (g.O.Sink.written c.tell.new.out)) c.tell.result c.tell.ensures.told

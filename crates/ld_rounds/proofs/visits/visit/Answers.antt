@@ -16,7 +16,7 @@ returns-then-not-has-clause-held g c who is k first s far b there told h =
     let broken = IsBroken (g.N.Nodes.faults c.args.nodes.now) (g.N.Nodes.faults c.args.nodes.now) (g.N.Nodes.endings c.args.nodes.now) (g.N.Nodes.endings c.args.nodes.now) in
     let w = Some (g.O.Sink.written c.args.out.now) in
     inr (went_visit who broken k first b c.args.node (counted (g.N.Nodes.faults c.args.nodes.now) (g.N.Nodes.faults c.args.nodes.now) (g.N.Nodes.endings c.args.nodes.now) (g.N.Nodes.endings c.args.nodes.now)) (g.A.Actor.stands c.args.actor.now) (g.N.Nodes.tells c.args.nodes.now k) s c.args.queues.now w w (λ l. l) (unwaited (queue_of c.args.queues.now c.args.node) c.has.result c.has.ensures.waits c.if-not-has.true)
-    (went_here who broken k first b (Visiting k c.args.node) (g.A.Actor.stands c.args.actor.now) (AllTaken (g.N.Nodes.tells c.args.nodes.now k)) s far c.args.queues.now w (tt, tt) told h))
+    (went_here who broken k first b (Visiting k first c.args.node) (g.A.Actor.stands c.args.actor.now) (AllTaken (g.N.Nodes.tells c.args.nodes.now k)) s far c.args.queues.now w (tt, tt, tt) told h))
 
 pub returns-in-Err-clause-held : goal.returns-in-Err-clause-held
 returns-in-Err-clause-held g c who is k first s far b there told h =
@@ -25,7 +25,7 @@ returns-in-Err-clause-held g c who is k first s far b there told h =
     let T = g.N.Nodes.tells c.dial.new.self k in
     let broken = IsBroken (g.N.Nodes.faults c.args.nodes.now) (g.N.Nodes.faults c.dial.new.self) (g.N.Nodes.endings c.args.nodes.now) (g.N.Nodes.endings c.dial.new.self) in
     inr (went_visit who broken k first b c.args.node (counted (g.N.Nodes.faults c.args.nodes.now) (g.N.Nodes.faults c.dial.new.self) (g.N.Nodes.endings c.args.nodes.now) (g.N.Nodes.endings c.dial.new.self)) (g.A.Actor.stands a) T s c.drop_all.new.self w w (λ l. l) (ap (λ (x : List (List Msg)). queue_of x c.args.node) c.drop_all.ensures.dropped ∙ emptied c.args.queues.now c.args.node)
-    (subst (λ (x : List (List Msg)). Went who broken (Visiting k c.args.node) (g.A.Actor.stands a) (AllTaken T) k first s x w w) (sym c.drop_all.ensures.dropped)
+    (subst (λ (x : List (List Msg)). Went who broken (Visiting k first c.args.node) (g.A.Actor.stands a) (AllTaken T) k first s x w w) (sym c.drop_all.ensures.dropped)
     (missed who (IsBroken (g.N.Nodes.faults c.args.nodes.now) (g.N.Nodes.faults c.dial.new.self) (g.N.Nodes.endings c.args.nodes.now) (g.N.Nodes.endings c.dial.new.self)) k first b (g.A.Actor.stands a) (g.met.A.Actor.stands_apart a) s (inl c.in-Err.ensures.cause.failed) (AllTaken T) far c.args.node c.args.queues.now w told.1 c.has.ensures.node h ((c.in-Err.ensures.dialed k far told.0).1, refl))))
 
 pub frames-init : goal.frames-init
@@ -49,7 +49,7 @@ returns-then-not-waits-clause-held g c who is k first s far b there told h =
     let new = Some (g.O.Sink.written c.exchange.new.out) in
     ⊎_elim (λ quiet. inl quiet)
     (λ v. inr (went_visit who (IsBroken (g.N.Nodes.faults c.args.nodes.now) (g.N.Nodes.faults c.exchange.new.nodes) (g.N.Nodes.endings c.args.nodes.now) (g.N.Nodes.endings c.exchange.new.nodes)) k first b y (counted (g.N.Nodes.faults c.args.nodes.now) (g.N.Nodes.faults c.exchange.new.nodes) (g.N.Nodes.endings c.args.nodes.now) (g.N.Nodes.endings c.exchange.new.nodes)) B (U k) s c.exchange.new.queues old new (λ l. l) (unwaited (queue_of c.exchange.new.queues y) c.has-waits.result c.has-waits.ensures.waits c.if-not-waits.true)
-    (went_as who (IsBroken (g.N.Nodes.faults c.args.nodes.now) (g.N.Nodes.faults c.exchange.new.nodes) (g.N.Nodes.endings c.args.nodes.now) (g.N.Nodes.endings c.exchange.new.nodes)) k first b (Visiting k y) (IsBroken (g.N.Nodes.faults c.args.nodes.now) (g.N.Nodes.faults c.exchange.new.nodes) (g.N.Nodes.endings c.args.nodes.now) (g.N.Nodes.endings c.exchange.new.nodes)) B (WithNode U k y) (AllTaken (U k)) s c.exchange.new.queues old new (λ l. l) (λ f t. t.0) v)))
+    (went_as who (IsBroken (g.N.Nodes.faults c.args.nodes.now) (g.N.Nodes.faults c.exchange.new.nodes) (g.N.Nodes.endings c.args.nodes.now) (g.N.Nodes.endings c.exchange.new.nodes)) k first b (Visiting k first y) (IsBroken (g.N.Nodes.faults c.args.nodes.now) (g.N.Nodes.faults c.exchange.new.nodes) (g.N.Nodes.endings c.args.nodes.now) (g.N.Nodes.endings c.exchange.new.nodes)) B (WithNode U k y) (AllTaken (U k)) s c.exchange.new.queues old new (λ l. l) (λ f t. t.0) v)))
     (visiting_on who (IsBroken (g.N.Nodes.faults c.args.nodes.now) (g.N.Nodes.faults c.exchange.new.nodes) (g.N.Nodes.endings c.args.nodes.now) (g.N.Nodes.endings c.exchange.new.nodes)) k first b {R = Bool} y (IsBroken (g.N.Nodes.faults c.args.nodes.now) (g.N.Nodes.faults c.frames.nodes) (g.N.Nodes.endings c.args.nodes.now) (g.N.Nodes.endings c.frames.nodes)) (IsBroken (g.N.Nodes.faults c.frames.nodes) (g.N.Nodes.faults c.exchange.new.nodes) (g.N.Nodes.endings c.frames.nodes) (g.N.Nodes.endings c.exchange.new.nodes)) (g.N.Nodes.silent c.frames.nodes ≡ true) (g.N.Nodes.silent c.exchange.new.nodes ≡ true) (g.A.Actor.stands c.frames.actor) B (WithNode T k y) (WithNode U k y) s
     c.frames.queues c.exchange.new.queues old (Some (g.O.Sink.written c.frames.out)) new (Ok true) (broken_until _ _ _ _ _ _ c.in_ok-exchange.ensures.counts) (broken_since _ _ _ _ _ _ c.frames.invariant.3)
     c.in_ok-exchange.ensures.silent
@@ -80,7 +80,7 @@ returns-in_err-exchange-clause-held g c who is k first s far b there told h =
     (visiting_on who (IsBroken (g.N.Nodes.faults c.args.nodes.now) (g.N.Nodes.faults c.exchange.new.nodes) (g.N.Nodes.endings c.args.nodes.now) (g.N.Nodes.endings c.exchange.new.nodes)) k first b {R = Bool} c.args.node (IsBroken (g.N.Nodes.faults c.args.nodes.now) (g.N.Nodes.faults c.frames.nodes) (g.N.Nodes.endings c.args.nodes.now) (g.N.Nodes.endings c.frames.nodes)) (IsBroken (g.N.Nodes.faults c.frames.nodes) (g.N.Nodes.faults c.exchange.new.nodes) (g.N.Nodes.endings c.frames.nodes) (g.N.Nodes.endings c.exchange.new.nodes)) (g.N.Nodes.silent c.frames.nodes ≡ true) (g.N.Nodes.silent c.exchange.new.nodes ≡ true) (g.A.Actor.stands c.frames.actor) (g.A.Actor.stands c.exchange.new.actor) (WithNode T k y) (AllTaken (U k)) s
     c.frames.queues c.exchange.new.queues (Some (g.O.Sink.written c.args.out.now)) (Some (g.O.Sink.written c.frames.out)) (Some (g.O.Sink.written c.exchange.new.out)) (Err c.in_err-exchange.field-0.0) (broken_until _ _ _ _ _ _ c.in_err-exchange.ensures.counts) (broken_since _ _ _ _ _ _ c.frames.invariant.3)
     c.in_err-exchange.ensures.silent
-    (λ w. ⊎_elim (λ quiet. inl quiet) (λ v. inr (goes_as who (IsBroken (g.N.Nodes.faults c.frames.nodes) (g.N.Nodes.faults c.exchange.new.nodes) (g.N.Nodes.endings c.frames.nodes) (g.N.Nodes.endings c.exchange.new.nodes)) k first b {R = Bool} (Visiting k c.args.node) (VisitEnd k c.args.node) (IsBroken (g.N.Nodes.faults c.frames.nodes) (g.N.Nodes.faults c.exchange.new.nodes) (g.N.Nodes.endings c.frames.nodes) (g.N.Nodes.endings c.exchange.new.nodes)) (g.A.Actor.stands c.exchange.new.actor) (WithNode U k y) (AllTaken (U k)) w.moved.state c.exchange.new.queues (Some (g.O.Sink.written c.frames.out)) (Some (g.O.Sink.written c.exchange.new.out)) (Err c.in_err-exchange.field-0.0) (λ l. l) (λ f t. t.0) v))
+    (λ w. ⊎_elim (λ quiet. inl quiet) (λ v. inr (goes_as who (IsBroken (g.N.Nodes.faults c.frames.nodes) (g.N.Nodes.faults c.exchange.new.nodes) (g.N.Nodes.endings c.frames.nodes) (g.N.Nodes.endings c.exchange.new.nodes)) k first b {R = Bool} (Visiting k first c.args.node) (VisitEnd k first c.args.node) (IsBroken (g.N.Nodes.faults c.frames.nodes) (g.N.Nodes.faults c.exchange.new.nodes) (g.N.Nodes.endings c.frames.nodes) (g.N.Nodes.endings c.exchange.new.nodes)) (g.A.Actor.stands c.exchange.new.actor) (WithNode U k y) (AllTaken (U k)) w.moved.state c.exchange.new.queues (Some (g.O.Sink.written c.frames.out)) (Some (g.O.Sink.written c.exchange.new.out)) (Err c.in_err-exchange.field-0.0) (λ l. l) (λ f t. t.0) v))
     (c.in_err-exchange.ensures.held who (drives_on who (g.A.Actor.own c.args.actor.now) (g.A.Actor.own c.frames.actor) is c.frames.invariant.4) k first w.moved.state w.far b there w.told w.moved.holds))
     (c.frames.invariant.0 who is k first s far b there told h)))
 
@@ -107,9 +107,9 @@ returns-then-not-branch-clause-held g c who is k first s far b there told h =
     (c.frames.invariant.0 who is k first s far b there told h) in
     let broken = IsBroken (g.N.Nodes.faults c.args.nodes.now) (g.N.Nodes.faults c.exchange.new.nodes) (g.N.Nodes.endings c.args.nodes.now) (g.N.Nodes.endings c.exchange.new.nodes) in
     ⊎_elim (λ quiet. inl quiet) (λ v. inr (went_visit who broken k first b y (counted (g.N.Nodes.faults c.args.nodes.now) (g.N.Nodes.faults c.exchange.new.nodes) (g.N.Nodes.endings c.args.nodes.now) (g.N.Nodes.endings c.exchange.new.nodes)) B (U k) s c.drop_all-then-not-branch.new.self old new (λ l. l) (ap (λ (x : List (List Msg)). queue_of x y) c.drop_all-then-not-branch.ensures.dropped ∙ emptied c.exchange.new.queues y)
-    (subst (λ (x : List (List Msg)). Went who broken (Visiting k c.args.node) B (AllTaken (U k)) k first s x old new) (sym c.drop_all-then-not-branch.ensures.dropped)
+    (subst (λ (x : List (List Msg)). Went who broken (Visiting k first c.args.node) B (AllTaken (U k)) k first s x old new) (sym c.drop_all-then-not-branch.ensures.dropped)
     (dropped who (IsBroken (g.N.Nodes.faults c.args.nodes.now) (g.N.Nodes.faults c.exchange.new.nodes) (g.N.Nodes.endings c.args.nodes.now) (g.N.Nodes.endings c.exchange.new.nodes)) k first b B (g.met.A.Actor.stands_apart c.exchange.new.actor) s (broken_since _ _ _ _ _ _ c.frames.invariant.3 (c.in_ok-exchange.ensures.broken c.if-not-branch.true)) (AllTaken (U k)) c.exchange.new.queues y old new c.has.ensures.node
-    (went_as who (IsBroken (g.N.Nodes.faults c.args.nodes.now) (g.N.Nodes.faults c.exchange.new.nodes) (g.N.Nodes.endings c.args.nodes.now) (g.N.Nodes.endings c.exchange.new.nodes)) k first b (Visiting k c.args.node) (IsBroken (g.N.Nodes.faults c.args.nodes.now) (g.N.Nodes.faults c.exchange.new.nodes) (g.N.Nodes.endings c.args.nodes.now) (g.N.Nodes.endings c.exchange.new.nodes)) B (WithNode U k y) (AllTaken (U k)) s c.exchange.new.queues old new (λ l. l) (λ f t. t.0) v))))) went
+    (went_as who (IsBroken (g.N.Nodes.faults c.args.nodes.now) (g.N.Nodes.faults c.exchange.new.nodes) (g.N.Nodes.endings c.args.nodes.now) (g.N.Nodes.endings c.exchange.new.nodes)) k first b (Visiting k first c.args.node) (IsBroken (g.N.Nodes.faults c.args.nodes.now) (g.N.Nodes.faults c.exchange.new.nodes) (g.N.Nodes.endings c.args.nodes.now) (g.N.Nodes.endings c.exchange.new.nodes)) B (WithNode U k y) (AllTaken (U k)) s c.exchange.new.queues old new (λ l. l) (λ f t. t.0) v))))) went
 
 pub returns-then-not-branch-clause-later : goal.returns-then-not-branch-clause-later
 returns-then-not-branch-clause-later g c = later_on _ _ _ _ _ _ c.frames.invariant.2 c.in_ok-exchange.ensures.later
@@ -134,7 +134,7 @@ frames-preserved g c =
 
 pub returns-clause-held : goal.returns-clause-held
 returns-clause-held g c who is k first s far b there told h =
-    ⊎_elim (λ quiet. inl quiet) (λ w. inr (visit_ends who (IsBroken (g.N.Nodes.faults c.args.nodes.now) (g.N.Nodes.faults c.frames.nodes) (g.N.Nodes.endings c.args.nodes.now) (g.N.Nodes.endings c.frames.nodes)) k first b c.args.node (counted (g.N.Nodes.faults c.args.nodes.now) (g.N.Nodes.faults c.frames.nodes) (g.N.Nodes.endings c.args.nodes.now) (g.N.Nodes.endings c.frames.nodes)) (g.A.Actor.stands c.frames.actor) (AllTaken (g.N.Nodes.tells c.frames.nodes k)) s c.frames.queues (Some (g.O.Sink.written c.args.out.now)) (Some (g.O.Sink.written c.frames.out)) ends.NoMemory (λ l. l) (halted who (IsBroken (g.N.Nodes.faults c.args.nodes.now) (g.N.Nodes.faults c.frames.nodes) (g.N.Nodes.endings c.args.nodes.now) (g.N.Nodes.endings c.frames.nodes)) k first b (Visiting k c.args.node) (g.A.Actor.stands c.frames.actor) (WithNode (g.N.Nodes.tells c.frames.nodes) k c.args.node) s c.frames.queues (Some (g.O.Sink.written c.args.out.now)) (Some (g.O.Sink.written c.frames.out)) w)))
+    ⊎_elim (λ quiet. inl quiet) (λ w. inr (visit_ends who (IsBroken (g.N.Nodes.faults c.args.nodes.now) (g.N.Nodes.faults c.frames.nodes) (g.N.Nodes.endings c.args.nodes.now) (g.N.Nodes.endings c.frames.nodes)) k first b c.args.node (counted (g.N.Nodes.faults c.args.nodes.now) (g.N.Nodes.faults c.frames.nodes) (g.N.Nodes.endings c.args.nodes.now) (g.N.Nodes.endings c.frames.nodes)) (g.A.Actor.stands c.frames.actor) (AllTaken (g.N.Nodes.tells c.frames.nodes k)) s c.frames.queues (Some (g.O.Sink.written c.args.out.now)) (Some (g.O.Sink.written c.frames.out)) ends.NoMemory (λ l. l) (halted who (IsBroken (g.N.Nodes.faults c.args.nodes.now) (g.N.Nodes.faults c.frames.nodes) (g.N.Nodes.endings c.args.nodes.now) (g.N.Nodes.endings c.frames.nodes)) k first b (Visiting k first c.args.node) (g.A.Actor.stands c.frames.actor) (WithNode (g.N.Nodes.tells c.frames.nodes) k c.args.node) s c.frames.queues (Some (g.O.Sink.written c.args.out.now)) (Some (g.O.Sink.written c.frames.out)) w)))
     (c.frames.invariant.0 who is k first s far b there told h)
 
 pub returns-then-not-has-clause-since : goal.returns-then-not-has-clause-since
