@@ -19,8 +19,9 @@ use Rattle.ld_machine.specs.State.{node_at}
 use Rattle.ld_machine.specs.Step.{released_at}
 use Rattle.ld_dial.specs.Far.{Far, alone, is_up_in}
 use Rattle.ld_operate.specs.Asked.{first_number}
-use Rattle.ld_operate.specs.Trims.{trim_line, trims_text, has_told, has_trimmed, trim_of, trims_of, HearsTrim, HeardTrim, HeardTrims}
-use Rattle.ld_operate.proofs.Groups.{Told, Reached, faces, stands, up_of, heard_some, heard_none, as_and, and_true}
+use Rattle.ld_operate.specs.Trims.{trim_line, trims_text, has_told, has_trimmed, trim_of, trims_of, HearsTrim, HearsOn, HeardTrim, HeardTrims}
+use Rattle.ld_operate.specs.Heard.{IsBroken, AreLater}
+use Rattle.ld_operate.proofs.Groups.{Told, Reached, faces, stands, up_of, heard_some, heard_none, as_and, and_true, broken_on, broken_since}
 
 -- ---- an answer tells the trim point ----
 
@@ -76,6 +77,24 @@ hears_some T U V s log y from trim o a dials j e is p c all f has = let d = face
       ap Some (is ∙ ap trim_told h.0 ∙ told_is_trim (node_at (alone all) y).plain.generation (log_of (node_at (alone all) y).plain log) (released_at (node_at (alone all) y) log)) ∙ sym (down_is (node_at (alone all) y) log true (is_up_in all y) d.0),
       stands h.1,
     )) (heard_some (V c) s all y log from first_number o a e j (p c all d.1 d.0 has))
+
+-- ---- a node that is asked again ----
+
+pub hears_kept : (T : Config → Far → Type 0) (s : Bool) (log y : ℕ) (told : Option ℕ) → HearsOn T T s log y told told
+hears_kept T s log y told c all f has is = inr (is, f)
+
+-- it rested before
+pub hears_rested : (T U V : Config → Far → Type 0) (s : Bool) (log y : ℕ) (told trim : Option ℕ) → ((c : Config) (far : Far) → T c far → U c far) → HearsTrim U V s log y trim → HearsOn T V s log y told trim
+hears_rested T U V s log y told trim rests p c all f has is = p c all (record { far = f.far; told = rests c f.far f.told; same = f.same }) has
+
+pub hears_on : (T U V : Config → Far → Type 0) (s t : Bool) (log y : ℕ) (a b : Option ℕ) → (s ≡ true → t ≡ true) → HearsTrim T U s log y a → HearsOn U V t log y a b → HearsTrim T V t log y b
+hears_on T U V s t log y a b quiet p q c all f has = ⊎_elim (λ x. inl (quiet x)) (λ h. q c all h.1 has h.0) (p c all f has)
+
+-- it fell silent at this ask, or at one before
+pub broken_on_ask : (f g h d e k : ℕ) (a b : Option ℕ) → (has_told a ≡ false → IsBroken f g d e) → AreLater f g d e → (has_told a ≡ true → has_told b ≡ false → IsBroken g h e k) → AreLater g h e k
+    → has_told b ≡ false → IsBroken f h d k
+broken_on_ask f g h d e k None b p l q m n = broken_on f g h d e k m.0 m.1 (p refl)
+broken_on_ask f g h d e k (Some x) b p l q m n = broken_since f g h d e k l.0 l.1 (q refl n)
 
 -- ---- all nodes ----
 

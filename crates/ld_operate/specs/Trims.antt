@@ -1,5 +1,5 @@
 -- What nodes say of a log's trim point.
-use Rattle.std.specs.Prelude.{ℕ, ◌≡◌, ◌⊎◌, List, ◌++◌, codes, map, Option, None, Some, Bool, true, false, nat_le, if◌then◌else◌}
+use Rattle.std.specs.Prelude.{ℕ, ◌≡◌, ◌⊎◌, List, ◌++◌, codes, map, Option, None, Some, Bool, true, false, nat_le, nat_lt, if◌then◌else◌}
 use Rattle.std.specs.List.{flat_map, list_all}
 use Rattle.ld_ids.specs.Set.{members}
 use Rattle.ld_config.specs.declared.config.Config.{Config}
@@ -29,6 +29,11 @@ abbrev pub has_trimmed : ℕ → Option ℕ → Bool
 has_trimmed upto None = false
 has_trimmed upto (Some trim) = nat_le upto trim
 
+-- whether it told that not all up to a number is trimmed there
+abbrev pub is_behind : ℕ → Option ℕ → Bool
+is_behind upto None = false
+is_behind upto (Some trim) = nat_lt trim upto
+
 -- what a node of the written machine tells: one that is up its trim point
 abbrev pub trim_of : Node → ℕ → Option ℕ
 trim_of x log = if is_up x.status then Some (log_of x.plain log).trim else None
@@ -41,6 +46,11 @@ trims_of nodes log ys = map (λ y. (y, trim_of (node_at (alone nodes) y) log)) y
 -- of a node
 abbrev pub HearsTrim : (Config → Far → Type 0) → (Config → Far → Type 0) → Bool → ℕ → ℕ → Option ℕ → Type 0
 HearsTrim tells_old tells_new silent log y trim = (c : Config) (nodes : List (ℕ × Node)) → Stand (tells_old c) nodes → has_log c log ≡ true
+    → (silent ≡ true) ⊎ ((trim ≡ trim_of (node_at (alone nodes) y) log) × Stand (tells_new c) nodes)
+
+-- of a node that was heard before, which told this
+abbrev pub HearsOn : (Config → Far → Type 0) → (Config → Far → Type 0) → Bool → ℕ → ℕ → Option ℕ → Option ℕ → Type 0
+HearsOn tells_old tells_new silent log y told trim = (c : Config) (nodes : List (ℕ × Node)) → Stand (tells_old c) nodes → has_log c log ≡ true → told ≡ trim_of (node_at (alone nodes) y) log
     → (silent ≡ true) ⊎ ((trim ≡ trim_of (node_at (alone nodes) y) log) × Stand (tells_new c) nodes)
 
 -- and its line was written; it was silent only as said

@@ -1,7 +1,7 @@
 // How far each node has trimmed a log.
 ghost use Rattle.std.specs.Prelude.{◌≡◌, ◌≤◌, ◌++◌, true, false, OnOk, IfOk, IfErr};
 ghost use Rattle.ld_operate.specs.Heard.{IsBroken, AreLater, IsAskStop, IsNodeStop};
-ghost use Rattle.ld_operate.specs.Trims.{trim_line, has_told, has_trimmed, HearsTrim, HeardTrim, HasTrims};
+ghost use Rattle.ld_operate.specs.Trims.{trim_line, has_told, has_trimmed, is_behind, HearsTrim, HearsOn, HeardTrim, HasTrims};
 
 use crate::answers::{silent_line, trim_told};
 use crate::asking::ask;
@@ -14,6 +14,9 @@ use ld_ids::{LogId, NoMemory, NodeId};
 use ld_io::Sink;
 use ld_lsn::Lsn;
 use std::alloc::Global;
+
+/// How many milliseconds pass before a node that is behind is asked again: before the second ask, and before the third one.
+const PAUSES: (u32, u32) = (20, 400);
 
 /// The line of what a node told for its trim point, or that it is silent.
 #[tactic(auto, unfolding(crate::specs::Trims::trim_line))]
@@ -35,6 +38,16 @@ fn has_trimmed(upto: Lsn, trim: &Option<Lsn>) -> bool
     match trim {
         None => false,
         Some(trim) => upto.value() <= trim.value(),
+    }
+}
+
+/// Whether it told that not all up to a number is trimmed there.
+fn is_behind(upto: Lsn, trim: &Option<Lsn>) -> bool
+    ensures { result ≡ is_behind upto trim.now }
+{
+    match trim {
+        None => false,
+        Some(trim) => trim.value() < upto.value(),
     }
 }
 
@@ -61,7 +74,52 @@ fn ask_trim<N: Nodes>(
     }
 }
 
-/// Dials a node, asks it for its trim point of a log and writes its line. True where it has trimmed all up to a number.
+/// Where what a node told is behind a number, asks it again for its trim point of a log, so many milliseconds later: by then it may
+/// have taken a trim that was under way. Else that is the answer.
+fn ask_again<N: Nodes>(
+    alloc: Global,
+    log: LogId,
+    node: NodeId,
+    upto: Lsn,
+    told: Option<Lsn>,
+    pause: u32,
+    nodes: &mut N,
+) -> Result<Option<Lsn>, StatusStop>
+    ensures heard { IfOk result (HearsOn (N.tells nodes.old) (N.tells nodes.new) (N.silent nodes.new) log node told) }
+    ensures broken { IfOk result (λ trim. has_told told ≡ true → has_told trim ≡ false → IsBroken (N.faults nodes.old) (N.faults nodes.new) (N.endings nodes.old) (N.endings nodes.new)) }
+    ensures kept { IfOk result (λ trim. is_behind upto told ≡ false → trim ≡ told) }
+    ensures later { AreLater (N.faults nodes.old) (N.faults nodes.new) (N.endings nodes.old) (N.endings nodes.new) }
+    ensures quiet { N.silent nodes.old ≡ true → N.silent nodes.new ≡ true }
+    ensures cause { IfErr result (IsAskStop (N.off nodes.new)) }
+{
+    if !is_behind(upto, &told) {
+        return Ok(told);
+    }
+    nodes.rest(pause);
+    ask_trim(alloc, log, node, nodes)
+}
+
+/// What a node tells for its trim point of a log, which is asked up to three times until that isn't behind a number. None where
+/// it is silent at one of them.
+fn last_trim<N: Nodes>(
+    alloc: Global,
+    log: LogId,
+    node: NodeId,
+    upto: Lsn,
+    nodes: &mut N,
+) -> Result<Option<Lsn>, StatusStop>
+    ensures heard { IfOk result (HearsTrim (N.tells nodes.old) (N.tells nodes.new) (N.silent nodes.new) log node) }
+    ensures broken { IfOk result (λ trim. has_told trim ≡ false → IsBroken (N.faults nodes.old) (N.faults nodes.new) (N.endings nodes.old) (N.endings nodes.new)) }
+    ensures later { AreLater (N.faults nodes.old) (N.faults nodes.new) (N.endings nodes.old) (N.endings nodes.new) }
+    ensures quiet { N.silent nodes.old ≡ true → N.silent nodes.new ≡ true }
+    ensures cause { IfErr result (IsAskStop (N.off nodes.new)) }
+{
+    let first = ask_trim(alloc, log, node, nodes)?;
+    let second = ask_again(alloc, log, node, upto, first, PAUSES.0, nodes)?;
+    ask_again(alloc, log, node, upto, second, PAUSES.1, nodes)
+}
+
+/// Asks a node for its trim point of a log and writes its line. True where it has trimmed all up to a number.
 fn tell_trim<N: Nodes, O: Sink>(
     alloc: Global,
     log: LogId,
@@ -76,7 +134,7 @@ fn tell_trim<N: Nodes, O: Sink>(
     ensures quiet { N.silent nodes.old ≡ true → N.silent nodes.new ≡ true }
     ensures cause { IfErr result (IsNodeStop (O.faults out.old) (O.faults out.new) (N.off nodes.new)) }
 {
-    let trim = ask_trim(alloc, log, node, nodes)?;
+    let trim = last_trim(alloc, log, node, upto, nodes)?;
     let mut line = Vec::new(alloc);
     trim_line(&mut line, node, &trim)?;
     write(out, &line)?;
@@ -84,9 +142,10 @@ fn tell_trim<N: Nodes, O: Sink>(
 }
 
 /// Asks each node of the configuration, rising, how far it has trimmed a log, and writes a line of each: `node N trim LSN`, or
-/// `node N silent` where a call of it fails, or it has ended. Each node is dialed once, and its line is written as soon as it was
-/// answered. True where each of them answered, and has trimmed all up to `upto`, with that number or above it; then none of them
-/// has what was trimmed.
+/// `node N silent` where a call of it fails, or it has ended. A node whose answer is below `upto` is dialed and asked again 20
+/// milliseconds later, and where it still is 400 milliseconds after that, since a trim that was sent to it may be under way; its
+/// line tells the last of these asks, and is written before the next node is asked. True where each of them answered, and has
+/// trimmed all up to `upto`, with that number or above it; then none of them has what was trimmed.
 ///
 /// It changes nothing at the nodes. It ends with `BadFrame` where what a node sent begins no frame, with `Look(Write)` where the
 /// output failed, and when out of memory, and with no other one.

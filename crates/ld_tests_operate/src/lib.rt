@@ -4,6 +4,8 @@
 #[cfg(test)]
 mod filling;
 #[cfg(test)]
+mod late;
+#[cfg(test)]
 mod registers;
 #[cfg(test)]
 mod status;
