@@ -1,19 +1,20 @@
-// A crowd that tells when it listens, and whom it dismisses.
+// A crowd that tells when it listens, whom it dismisses, and what became of its node.
 ghost use Rattle.std.specs.Prelude.{◌≡◌, ◌∷◌, [], length};
 ghost use Rattle.ld_io.specs.Causes.{HasCause};
 ghost use Rattle.ld_crowd.specs.Calls.{after_turn, after_read, after_say, IsNamed, HeardAtMost, finished, dismissed};
 
 use crate::TcpCrowd;
-use ld_crowd::{Crowd, Heard, Turn};
+use ld_crowd::{Crowd, Heard, News, Turn};
 use ld_io::{Failed, NoMemory};
+use std::alloc::AllocError;
 use std::fmt::Write as _;
 use std::io::{ErrorKind, Write};
 use std::net::Net;
 use std::time::Clock;
 
 /// A crowd that writes lines for a person: once its address is bound, before it waits for the first peer, a text and behind it
-/// the port, or the address; and one where it dismisses a peer, with the peer's number and why. Where there is nowhere to write
-/// them, or that fails, it goes on.
+/// the port, or the address; one where it dismisses a peer, with the peer's number and why; and one for each news of its node.
+/// Where there is nowhere to write them, or no memory for one, or that fails, it goes on.
 #[derive(Drop)]
 pub struct AnnouncedCrowd<'a, R: Net + Clock, W: Write + Drop> {
     crowd: TcpCrowd<'a, R>,
@@ -73,6 +74,18 @@ impl<'a, R: Net + Clock, W: Write + Drop> AnnouncedCrowd<'a, R, W> {
         }
     }
 
+    /// Writes what became of the node. The text of the first line stays, which may be still to come.
+    fn write_news(&mut self, news: News)
+        ensures crowd { self.new.crowd ≡ self.old.crowd }
+    {
+        if let Some(out) = &mut self.out {
+            let mut line = String::new(*self.text.allocator());
+            if add_news(&mut line, news).is_ok() {
+                let _ = out.write_all(line.as_bytes());
+            }
+        }
+    }
+
     /// Writes that a peer is dismissed, and why.
     fn tell(&mut self, peer: u64, why: &str)
         ensures crowd { self.new.crowd ≡ self.old.crowd }
@@ -82,6 +95,25 @@ impl<'a, R: Net + Clock, W: Write + Drop> AnnouncedCrowd<'a, R, W> {
             let _ = writeln!(self.text, "ld: peer {peer} was dismissed: {why}");
             let _ = out.write_all(self.text.as_bytes());
         }
+    }
+}
+
+/// The line of what became of a node.
+fn add_news(line: &mut String, news: News) -> Result<(), AllocError> {
+    match news {
+        News::Formatted { generation } => {
+            writeln!(
+                line,
+                "ld: the store was formatted under generation {generation}"
+            )
+        }
+        News::Rebuilt { log, epoch } => {
+            writeln!(line, "ld: log {log} was rebuilt up to epoch {epoch}")
+        }
+        News::Closed { log, epoch } => {
+            writeln!(line, "ld: epoch {epoch} of log {log} is closed")
+        }
+        News::Switched { count } => writeln!(line, "ld: segment {count} was begun"),
     }
 }
 
@@ -143,5 +175,12 @@ impl<'a, R: Net + Clock, W: Write + Drop> Crowd for AnnouncedCrowd<'a, R, W> {
     {
         self.crowd.dismiss(peer);
         self.tell(peer, "its bytes begin no frame");
+    }
+
+    fn note(&mut self, news: News)
+        ensures did { self.new.crowd.did.events ≡ self.old.crowd.did.events }
+        ensures faults { self.new.crowd.faults ≡ self.old.crowd.faults }
+    {
+        self.write_news(news);
     }
 }

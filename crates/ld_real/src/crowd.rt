@@ -4,7 +4,7 @@ ghost use Rattle.ld_io.specs.Causes.{HasCause};
 ghost use Rattle.ld_crowd.specs.Calls.{arrivals, after_turn, after_read, after_say, IsNamed, HeardAtMost, finished, dismissed};
 
 use crate::sockets::Sockets;
-use ld_crowd::{Crowd, Heard, Turn};
+use ld_crowd::{Crowd, Heard, News, Turn};
 use ld_io::{Failed, NoMemory};
 use ld_past::Past;
 use std::alloc::Global;
@@ -152,4 +152,9 @@ impl<'a, R: Net + Clock> Crowd for TcpCrowd<'a, R> {
         self.sockets.dismiss(peer);
         self.did.note(&[8, peer], &[]);
     }
+
+    /// Tells nobody.
+    fn note(&mut self, _news: News)
+        ensures same { self.new ≡ self.old }
+    {}
 }

@@ -7,6 +7,7 @@ ghost use Rattle.ld_real.specs.Dialed.{is_dialed, is_broken};
 ghost use Rattle.ld_real.specs.declared.places.Dialing.TheVariants.{Above};
 ghost use Rattle.ld_real.specs.declared.places.Listening.TheVariants.{Port};
 
+use crate::backoff::Backoff;
 use crate::places::{address_of, bound_at, connected_to, port_behind};
 use crate::{Dialing, Listening, Tried};
 use ld_io::Failed;
@@ -42,6 +43,11 @@ pub(crate) enum Peer {
 /// Whoever dials has to know more. A dial that nobody takes is a fault, and so is a read or a write of a dialed
 /// connection that breaks, or that the node keeps waiting for the link's limit, 10 seconds where nothing else is said.
 /// After it each read and write fails, until the next peer is present. A dialed node that ends is no fault.
+///
+/// A node that kept the link waiting for its limit, at a dial, a read or a write, isn't dialed the next times: each such dial
+/// fails at once, as one that nobody takes. They are 2 the first time, and twice as many each further time, up to 64; the dial
+/// behind them is made. Once the node has sent something they are none again. A dial that is refused, or a connection that
+/// breaks, leaves none out.
 #[derive(Drop)]
 pub struct TcpLink<'a, R: Net<Listener = TcpListener, Stream = TcpStream> + Clock> {
     rt: &'a R,
@@ -53,6 +59,7 @@ pub struct TcpLink<'a, R: Net<Listener = TcpListener, Stream = TcpStream> + Cloc
     did: Past,
     faults: u64,
     tried: Tried,
+    backoff: Backoff,
 }
 
 impl<'a, R: Net<Listener = TcpListener, Stream = TcpStream> + Clock> TcpLink<'a, R> {
@@ -108,6 +115,7 @@ impl<'a, R: Net<Listener = TcpListener, Stream = TcpStream> + Clock> TcpLink<'a,
             did: Past::new(),
             faults: 0,
             tried: Tried::new(),
+            backoff: Backoff::new(),
         }
     }
 
@@ -164,6 +172,69 @@ impl<'a, R: Net<Listener = TcpListener, Stream = TcpStream> + Clock> TcpLink<'a,
         self.present = Peer::Nobody;
         self.present = Peer::Came(accepted(&self.listener)?);
         Ok(())
+    }
+
+    /// Connects to a node, unless that is left out.
+    fn connect(&mut self, node: u8) -> io::Result<TcpStream>
+        ensures faults { self.new.faults ≡ self.old.faults }
+        ensures did { self.new.did ≡ self.old.did }
+        ensures present { self.new.present ≡ self.old.present }
+    {
+        if self.backoff.is_left_out(node) {
+            return Err(ErrorKind::TimedOut.into());
+        }
+        let answer = connected(self.rt, self.dialing, node, self.limit);
+        if let Err(error) = &answer {
+            self.backoff.fails(error.kind());
+        }
+        answer
+    }
+
+    /// Reads from the present peer. One that came and whose connection breaks has ended.
+    fn read_present(&mut self, buf: &mut [u8]) -> io::Result<usize>
+        ensures bound { ReadsAtMost result buf.new }
+        ensures faults { self.new.faults ≡ self.old.faults }
+        ensures did { self.new.did ≡ self.old.did }
+        ensures no_fault { is_dialed self.old.present ≡ false → is_ok result ≡ true }
+        ensures broken { OnErr result (is_broken self.new.present ≡ true) }
+        ensures stays { is_broken self.old.present ≡ true → is_ok result ≡ false }
+        ensures same { is_dialed self.new.present ≡ is_dialed self.old.present }
+    {
+        match &mut self.present {
+            Peer::Nobody => Ok(0),
+            Peer::Came(stream) => match read_from(stream, buf) {
+                Ok(count) => Ok(count),
+                Err(_) => {
+                    self.present = Peer::Nobody;
+                    Ok(0)
+                }
+            },
+            Peer::Dialed(stream) => read_dialed(stream, &mut self.backoff, buf),
+        }
+    }
+
+    /// Writes to the present peer. What is written to one that came, and whose connection breaks, goes nowhere.
+    fn write_present(&mut self, piece: &[u8]) -> io::Result<usize>
+        ensures bound { WritesAtMost result piece.now }
+        ensures some { IfOk result (λ n. 0 < length piece.now → 0 < n) }
+        ensures faults { self.new.faults ≡ self.old.faults }
+        ensures did { self.new.did ≡ self.old.did }
+        ensures no_fault { is_dialed self.old.present ≡ false → is_ok result ≡ true }
+        ensures broken { OnErr result (is_broken self.new.present ≡ true) }
+        ensures stays { is_broken self.old.present ≡ true → is_ok result ≡ false }
+        ensures same { is_dialed self.new.present ≡ is_dialed self.old.present }
+    {
+        match &mut self.present {
+            Peer::Nobody => Ok(piece.len()),
+            Peer::Came(stream) => match write_to(stream, piece) {
+                Ok(count) => Ok(count),
+                Err(_) => {
+                    self.present = Peer::Nobody;
+                    Ok(piece.len())
+                }
+            },
+            Peer::Dialed(stream) => write_dialed(stream, &mut self.backoff, piece),
+        }
     }
 
     /// Counts a call that failed.
@@ -245,27 +316,41 @@ fn connected<R: Net<Listener = TcpListener, Stream = TcpStream>>(
     Ok(stream)
 }
 
-/// Reads from a peer that was dialed. A connection that broke is closed.
-fn read_dialed(stream: &mut Option<TcpStream>, buf: &mut [u8]) -> io::Result<usize>
+/// Reads from a peer that was dialed. A connection that broke, or kept the link waiting, is closed.
+fn read_dialed(
+    stream: &mut Option<TcpStream>,
+    backoff: &mut Backoff,
+    buf: &mut [u8],
+) -> io::Result<usize>
     ensures bound { ReadsAtMost result buf.new }
     ensures broken { OnErr result (stream.new ≡ None) }
     ensures stays { stream.old ≡ None → is_ok result ≡ false }
 {
     let answer = match stream {
         Some(stream) => read_from(stream, buf),
-        None => None,
+        None => Err(ErrorKind::NotConnected),
     };
     match answer {
-        Some(count) => Ok(count),
-        None => {
+        Ok(count) => {
+            if count > 0 {
+                backoff.answered();
+            }
+            Ok(count)
+        }
+        Err(cause) => {
             *stream = None;
-            Err(ErrorKind::NotConnected.into())
+            backoff.fails(cause);
+            Err(cause.into())
         }
     }
 }
 
-/// Writes to a peer that was dialed. A connection that broke is closed.
-fn write_dialed(stream: &mut Option<TcpStream>, piece: &[u8]) -> io::Result<usize>
+/// Writes to a peer that was dialed. A connection that broke, or kept the link waiting, is closed.
+fn write_dialed(
+    stream: &mut Option<TcpStream>,
+    backoff: &mut Backoff,
+    piece: &[u8],
+) -> io::Result<usize>
     ensures bound { WritesAtMost result piece.now }
     ensures some { IfOk result (λ n. 0 < length piece.now → 0 < n) }
     ensures broken { OnErr result (stream.new ≡ None) }
@@ -273,45 +358,48 @@ fn write_dialed(stream: &mut Option<TcpStream>, piece: &[u8]) -> io::Result<usiz
 {
     let answer = match stream {
         Some(stream) => write_to(stream, piece),
-        None => None,
+        None => Err(ErrorKind::NotConnected),
     };
     match answer {
-        Some(count) => Ok(count),
-        None => {
+        Ok(count) => Ok(count),
+        Err(cause) => {
             *stream = None;
-            Err(ErrorKind::NotConnected.into())
+            backoff.fails(cause);
+            Err(cause.into())
         }
     }
 }
 
-/// Reads from the peer's stream. None where the connection broke.
-fn read_from(stream: &mut TcpStream, buf: &mut [u8]) -> Option<usize>
-    ensures bound { IfSome result (λ n. n ≤ length buf.new) }
+/// Reads from the peer's stream. It fails with the system's reason where the connection broke, or nothing came in time.
+fn read_from(stream: &mut TcpStream, buf: &mut [u8]) -> Result<usize, ErrorKind>
+    ensures bound { IfOk result (λ n. n ≤ length buf.new) }
     ensures len { length buf.new ≡ length buf.old }
 {
     for _ in 0..u64::MAX {
         match stream.read(buf) {
-            Ok(count) => return Some(count),
+            Ok(count) => return Ok(count),
             Err(error) if error.kind() == ErrorKind::Interrupted => {}
-            Err(_) => return None,
+            Err(error) => return Err(error.kind()),
         }
     }
-    None
+    Err(ErrorKind::Interrupted)
 }
 
-/// Writes to the peer's stream. None where the connection broke, or nothing was taken of a piece that isn't empty.
-fn write_to(stream: &mut TcpStream, piece: &[u8]) -> Option<usize>
-    ensures bound { IfSome result (λ n. n ≤ length piece.now) }
-    ensures some { IfSome result (λ n. 0 < length piece.now → 0 < n) }
+/// Writes to the peer's stream. It fails with the system's reason where the connection broke, or nothing was taken in time of a
+/// piece that isn't empty.
+fn write_to(stream: &mut TcpStream, piece: &[u8]) -> Result<usize, ErrorKind>
+    ensures bound { IfOk result (λ n. n ≤ length piece.now) }
+    ensures some { IfOk result (λ n. 0 < length piece.now → 0 < n) }
 {
     for _ in 0..u64::MAX {
         match stream.write(piece) {
-            Ok(count) if count > 0 || piece.is_empty() => return Some(count),
+            Ok(count) if count > 0 || piece.is_empty() => return Ok(count),
+            Ok(_) => return Err(ErrorKind::WriteZero),
             Err(error) if error.kind() == ErrorKind::Interrupted => {}
-            _ => return None,
+            Err(error) => return Err(error.kind()),
         }
     }
-    None
+    Err(ErrorKind::Interrupted)
 }
 
 impl<'a, R: Net<Listener = TcpListener, Stream = TcpStream> + Clock> Link for TcpLink<'a, R> {
@@ -345,20 +433,8 @@ impl<'a, R: Net<Listener = TcpListener, Stream = TcpStream> + Clock> Link for Tc
         ensures stays { is_broken self.old.present ≡ true → is_ok result ≡ false }
         ensures same { is_dialed self.new.present ≡ is_dialed self.old.present }
     {
-        let count = match &mut self.present {
-            Peer::Nobody => 0,
-            Peer::Came(stream) => match read_from(stream, buf) {
-                Some(count) => count,
-                None => {
-                    self.present = Peer::Nobody;
-                    0
-                }
-            },
-            Peer::Dialed(stream) => {
-                let answer = read_dialed(stream, buf);
-                self.count(answer)?
-            }
-        };
+        let answer = self.read_present(buf);
+        let count = self.count(answer)?;
         self.did.note(&[2], &buf[..count]);
         Ok(count)
     }
@@ -374,20 +450,8 @@ impl<'a, R: Net<Listener = TcpListener, Stream = TcpStream> + Clock> Link for Tc
         ensures stays { is_broken self.old.present ≡ true → is_ok result ≡ false }
         ensures same { is_dialed self.new.present ≡ is_dialed self.old.present }
     {
-        let count = match &mut self.present {
-            Peer::Nobody => piece.len(),
-            Peer::Came(stream) => match write_to(stream, piece) {
-                Some(count) => count,
-                None => {
-                    self.present = Peer::Nobody;
-                    piece.len()
-                }
-            },
-            Peer::Dialed(stream) => {
-                let answer = write_dialed(stream, piece);
-                self.count(answer)?
-            }
-        };
+        let answer = self.write_present(piece);
+        let count = self.count(answer)?;
         self.did.note(&[3], &piece[..count]);
         Ok(count)
     }
@@ -397,7 +461,8 @@ impl<'a, R: Net<Listener = TcpListener, Stream = TcpStream> + Clock> Dial for Tc
     /// Closes the connection of the peer that was there, and dials the node where the link has it. A name is looked up by
     /// the system's resolver at each dial, whose time isn't bounded; its addresses are tried in the order in which they come.
     /// The address where the link listens isn't bound by it. It fails where nobody takes the call within the link's limit,
-    /// for each of the addresses, and then there is no peer: each read and write fails.
+    /// for each of the addresses, and at once where the dial is left out, since the node kept the link waiting before; and then
+    /// there is no peer: each read and write fails.
     fn dial(&mut self, node: u8) -> Result<(), Failed>
         ensures cause { HasCause self.old.faults self.new.faults result }
         ensures did { self.new.did.events ≡ after_dial result node self.old.did.events }
@@ -406,7 +471,7 @@ impl<'a, R: Net<Listener = TcpListener, Stream = TcpStream> + Clock> Dial for Tc
     {
         self.present = Peer::Dialed(None);
         self.tried.dials(node);
-        let answer = connected(self.rt, self.dialing, node, self.limit);
+        let answer = self.connect(node);
         let stream = self.count(answer)?;
         self.present = Peer::Dialed(Some(stream));
         self.did.note(&[1, u64::from(node)], &[]);

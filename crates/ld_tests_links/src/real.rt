@@ -3,7 +3,7 @@ use ld_disk::Disk;
 use ld_ids::NodeId;
 use ld_io::Failed;
 use ld_link::{Dial, Link};
-use ld_real::{FileDisk, FileRegister, TcpLink};
+use ld_real::{Dialing, FileDisk, FileRegister, TcpLink};
 use ld_register::Register;
 use std::alloc::Global;
 use std::fs;
@@ -165,5 +165,35 @@ fn refused(rt: &HostRuntime) -> Result<[bool; 3], Fail> {
 #[test]
 fn a_dial_that_nobody_takes_fails(rt: HostRuntime) -> Result<(), Fail> {
     assert_eq!(rt; refused(&rt)?, [true; 3]);
+    Ok(())
+}
+
+/// Whether a node is dialed, and says nothing; its next two dials are left out, and the third one is made.
+fn is_left_out_twice<L: Dial>(link: &mut L) -> bool {
+    let is_silent = link.dial(1) == Ok(()) && link.read(&mut [0; 4]) == Err(Failed);
+    let first = link.dial(1) == Err(Failed);
+    let second = link.dial(1) == Err(Failed);
+    is_silent && first && second && link.dial(1) == Ok(())
+}
+
+/// Whether it is so of a node that says nothing within 100 milliseconds; how much is read once it has said a byte, and whether
+/// it is so again.
+fn silent(rt: &HostRuntime) -> Result<(bool, usize, bool), Fail> {
+    let listener = TcpListener::bind(rt, (Ipv4Addr::LOCALHOST, 0))?;
+    let port = listener.local_addr()?.port().saturating_sub(1);
+    let mut link = TcpLink::dialing(rt, Dialing::Above(port), 100);
+    let before = is_left_out_twice(&mut link);
+    let _ = listener.accept()?;
+    let (mut node, _) = listener.accept()?;
+    node.write_all(&[3])?;
+    let read = count(link.read(&mut [0; 4]));
+    Ok((before, read, is_left_out_twice(&mut link)))
+}
+
+#[test]
+fn a_node_that_kept_the_link_waiting_is_left_out_until_it_answers(
+    rt: HostRuntime,
+) -> Result<(), Fail> {
+    assert_eq!(rt; silent(&rt)?, (true, 1, true));
     Ok(())
 }
