@@ -31,6 +31,9 @@ use Rattle.ld_words.specs.declared.address.Reach.TheVariants as reaches
 use Rattle.ld_words.specs.declared.command.Command.{Command}
 use Rattle.ld_words.specs.declared.command.Command.TheVariants.{Replay, Exercise, Node, Crowd, Append, Tail, Register, Status, Mend, Replace, Show, Trim, Copy}
 use Rattle.ld_words.specs.Meaning.{Is, IsNumber, IsLsn, IsConfig, Says, IsMember, IsLogOf, AreFiles, IsNodeWords, IsLogWords, IsAppendWords, IsRange, IsTailWords, IsInTurn, IsCrowdWords, IsRegisterWords, IsStatusWords, IsNodeOf, IsKnownLog, IsPlaceFor, IsMendWords, IsReplaceWords, IsShowWords, IsTrimWords, IsCopyWords, IsUntil, follows, IsAbsent, IsListen, IsReach, Spells, IsNumberOr, IsNamed, Asks, ArePlacesOf, HasNoPlaces, AskForPlaces, AskForNoPlaces}
+use Rattle.ld_words.specs.declared.words.ReachWords.{ReachWords}
+use Rattle.ld_words.specs.declared.stopped.AskWords.{AskWords}
+use Rattle.ld_words.specs.Parts.{IsReachWords, IsAskWords}
 use Rattle.ld_words.proofs.OneAddress.{one_at}
 
 -- an argument has one value
@@ -109,13 +112,8 @@ no_files rows a b store register first second same files =
     files.apart (one_text _ rows store a files.first first ∙ same ∙ one_text _ rows b register second files.second)
 
 -- addresses that are refused are of no words over a log
-pub no_status_reach : (rows : List Row) (config : Config) → IsConfig (codes "config") rows config → (s : StatusWords) → IsStatusWords rows s → ((r : Reach) → IsReach rows config.nodes r → ⊥) → ⊥
-no_status_reach rows config is s words none =
-    none s.reach (subst (λ c. IsReach rows c.nodes s.reach) (one_config _ rows s.config config words.config is) words.reach)
-
--- the same of words by which a log is read or appended to
-pub no_log_reach : (rows : List Row) (config : Config) → IsConfig (codes "config") rows config → (w : LogWords) → IsLogWords rows w → ((r : Reach) → IsReach rows config.nodes r → ⊥) → ⊥
-no_log_reach rows config is w words none =
+pub no_reach_of : (rows : List Row) (config : Config) → IsConfig (codes "config") rows config → (w : ReachWords) → IsReachWords rows w → ((r : Reach) → IsReach rows config.nodes r → ⊥) → ⊥
+no_reach_of rows config is w words none =
     none w.reach (subst (λ c. IsReach rows c.nodes w.reach) (one_config _ rows w.config config words.config is) words.reach)
 
 -- whether the log is followed or not, there is one number of rounds, one last number and one pause
@@ -287,8 +285,8 @@ no_known_log rows log text config number is says l c known none =
     none (subst (λ i. IsLogOf i config) x (subst (λ d. IsLogOf l d) y known.known))
 
 -- addresses that are refused are of no words by which a node is mended
-pub no_mend_reach : (rows : List Row) (n : ℕ) (c : Config) → IsNodeOf rows n c → (m : MendWords) → IsMendWords rows m → ((r : Reach) → IsReach rows c.nodes r → ⊥) → ⊥
-no_mend_reach rows n c node m words none =
+pub no_ask_reach : (rows : List Row) (n : ℕ) (c : Config) → IsNodeOf rows n c → (m : AskWords) → IsAskWords rows m → ((r : Reach) → IsReach rows c.nodes r → ⊥) → ⊥
+no_ask_reach rows n c node m words none =
     none m.reach (subst (λ d. IsReach rows d.nodes m.reach) (one_config_of rows m.id n m.config c words.node node) words.reach)
 
 -- a place that is refused is of no words by which a node takes one

@@ -6,6 +6,8 @@ use Rattle.clap.specs.Kinds.{Kinds}
 use Rattle.clap.specs.Faults.{fault_of}
 use Rattle.clap.specs.declared.builder.action.ArgAction.TheVariants.{SetTrue}
 use Rattle.clap.specs.declared.builder.command.Command.{Command}
+use Rattle.ld_words.specs.declared.grammar.Part.{Part}
+use Rattle.ld_words.specs.declared.grammar.Part.TheVariants as parts
 use Rattle.clap.specs.declared.builder.command.Command.TheViews.{out-Command as fields_of}
 
 -- an option with a value, which has to be given
@@ -19,6 +21,12 @@ choice_rule name = record (new_rule name) { long = Some name }
 -- an option with no value, which may be left out
 abbrev pub flag_rule : Text → Rule
 flag_rule name = record (new_rule name) { long = Some name; action = Some SetTrue }
+
+-- an argument of a command, by its name
+abbrev pub part_rule : Part → Rule
+part_rule (parts.Needed name) = option_rule name.now
+part_rule (parts.Choice name) = choice_rule name.now
+part_rule (parts.Flag name) = flag_rule name.now
 
 abbrev pub exercise_shape : Shape
 exercise_shape = record (new_shape (codes "exercise")) {

@@ -2,3 +2,4 @@ pub mod Grammar
 pub mod Meaning
 pub mod Refuses
 pub mod Bounds
+pub mod Parts

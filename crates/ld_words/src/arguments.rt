@@ -60,8 +60,16 @@ pub fn files(alloc: Global, matches: &ArgMatches<'_>) -> Result<(FileName, FileN
         (Refuses ((store register : Text) → AreFiles (rows_of (found_of matches.now)) store register → ⊥)) }
 {
     let store = file_name(alloc, matches, "store")?;
-    let register = file_name(alloc, matches, "register")?;
+    let register = match file_name(alloc, matches, "register") {
+        Ok(register) => register,
+        Err(refusal) => {
+            drop(store);
+            return Err(refusal);
+        }
+    };
     if store.as_str() == register.as_str() {
+        drop(store);
+        drop(register);
         return Err(Refusal::OneFile {
             name: Argument::of("store"),
         });

@@ -22,8 +22,13 @@ pub fn node_of(alloc: Global, matches: &ArgMatches<'_>) -> Result<(NodeId, Confi
 {
     let id = number(matches, "id", 1, 16)?;
     let config = config(alloc, text(matches, "config")?)?;
-    let id = member("id", id, &config)?;
-    Ok((id, config))
+    match member("id", id, &config) {
+        Ok(id) => Ok((id, config)),
+        Err(refusal) => {
+            drop(config);
+            Err(refusal)
+        }
+    }
 }
 
 /// The log that the arguments say, and the configuration, of which it is a log.
@@ -35,6 +40,11 @@ pub fn known_log(alloc: Global, matches: &ArgMatches<'_>) -> Result<(LogId, Conf
 {
     let log = number(matches, "log", 1, 65_535)?;
     let config = config(alloc, text(matches, "config")?)?;
-    let log = log_of(log, &config)?;
-    Ok((log, config))
+    match log_of(log, &config) {
+        Ok(log) => Ok((log, config)),
+        Err(refusal) => {
+            drop(config);
+            Err(refusal)
+        }
+    }
 }

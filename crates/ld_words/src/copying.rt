@@ -50,8 +50,16 @@ pub fn copy_words(alloc: Global, matches: &ArgMatches<'_>) -> Result<CopyWords, 
 {
     alone(matches)?;
     let from = file_name(alloc, matches, "copy")?;
-    let register = file_name(alloc, matches, "register")?;
+    let register = match file_name(alloc, matches, "register") {
+        Ok(register) => register,
+        Err(refusal) => {
+            drop(from);
+            return Err(refusal);
+        }
+    };
     if from.as_str() == register.as_str() {
+        drop(from);
+        drop(register);
         return Err(Refusal::OneFile {
             name: Argument::of("copy"),
         });

@@ -3,7 +3,7 @@ ghost use Rattle.std.specs.Prelude.{◌≡◌, [], ◌∷◌, ◌++◌, IfOk, Ma
 ghost use Rattle.clap.specs.Walk.{Rule};
 ghost use Rattle.clap.specs.Words.{app_of, rule_of, subcommand_rows_of};
 ghost use Rattle.clap.specs.Simple.{App, Shape, with_subcommand};
-ghost use Rattle.ld_words.specs.Grammar.{option_rule, choice_rule, flag_rule, exercise_shape, files_shape, node_shape, log_shape, append_shape, tail_shape, register_shape, status_shape, mend_shape, replace_shape, show_shape, trim_shape, ld_app, found, IsCommand};
+ghost use Rattle.ld_words.specs.Grammar.{part_rule, exercise_shape, files_shape, node_shape, log_shape, append_shape, tail_shape, register_shape, status_shape, mend_shape, replace_shape, show_shape, trim_shape, ld_app, found, IsCommand};
 ghost use Rattle.ld_words.specs.Meaning.{IsNoCommand};
 ghost use Rattle.ld_words.specs.Refuses.{Refuses};
 
@@ -12,28 +12,27 @@ use clap::error::ErrorKind;
 use clap::{Arg, ArgAction, ArgMatches, Command};
 use std::alloc::{AllocError, Global};
 
-/// An option with a value, which has to be given.
-fn option<'a>(alloc: Global, name: &'a str) -> Arg<'a>
-    ensures rule { rule_of result ≡ option_rule name.now }
-    ensures own { result.global ≡ false }
-{
-    Arg::new(alloc, name).long(name).required(true)
+/// An argument of a command, by its name.
+#[derive(Clone, Copy)]
+enum Part<'a> {
+    /// An option with a value, which has to be given.
+    Needed(&'a str),
+    /// An option with a value, which may be left out.
+    Choice(&'a str),
+    /// An option with no value, which may be left out.
+    Flag(&'a str),
 }
 
-/// An option with a value, which may be left out.
-fn choice<'a>(alloc: Global, name: &'a str) -> Arg<'a>
-    ensures rule { rule_of result ≡ choice_rule name.now }
+/// The argument, as clap has it.
+fn argument<'a>(alloc: Global, part: Part<'a>) -> Arg<'a>
+    ensures rule { rule_of result ≡ part_rule part.entry }
     ensures own { result.global ≡ false }
 {
-    Arg::new(alloc, name).long(name)
-}
-
-/// An option with no value, which may be left out.
-fn flag<'a>(alloc: Global, name: &'a str) -> Arg<'a>
-    ensures rule { rule_of result ≡ flag_rule name.now }
-    ensures own { result.global ≡ false }
-{
-    Arg::new(alloc, name).long(name).action(ArgAction::SetTrue)
+    match part {
+        Part::Needed(name) => Arg::new(alloc, name).long(name).required(true),
+        Part::Choice(name) => Arg::new(alloc, name).long(name),
+        Part::Flag(name) => Arg::new(alloc, name).long(name).action(ArgAction::SetTrue),
+    }
 }
 
 /// The command with one argument more, where it could be made.
@@ -50,162 +49,204 @@ fn with<'a>(made: Result<Command<'a>, AllocError>, more: Arg<'a>) -> Result<Comm
     }
 }
 
-/// The command with an option more, which has to be given.
-fn with_option<'a>(
+/// The command with these arguments more, where it could be made.
+fn with_parts<'a>(
     made: Result<Command<'a>, AllocError>,
     alloc: Global,
-    name: &'a str,
+    parts: &[Part<'a>],
 ) -> Result<Command<'a>, AllocError>
-    ensures { (shape : Shape) → IfOk made.entry (IsCommand shape) → IfOk result (IsCommand (record shape { rules = shape.rules ++ option_rule name.now ∷ [] })) }
+    ensures { (shape : Shape) → IfOk made.entry (IsCommand shape) → IfOk result (IsCommand (record shape { rules = shape.rules ++ map part_rule parts.now })) }
 {
-    with(made, option(alloc, name))
-}
-
-/// The command with an option more, which may be left out.
-fn with_choice<'a>(
-    made: Result<Command<'a>, AllocError>,
-    alloc: Global,
-    name: &'a str,
-) -> Result<Command<'a>, AllocError>
-    ensures { (shape : Shape) → IfOk made.entry (IsCommand shape) → IfOk result (IsCommand (record shape { rules = shape.rules ++ choice_rule name.now ∷ [] })) }
-{
-    with(made, choice(alloc, name))
-}
-
-/// The command with a flag more.
-fn with_flag<'a>(
-    made: Result<Command<'a>, AllocError>,
-    alloc: Global,
-    name: &'a str,
-) -> Result<Command<'a>, AllocError>
-    ensures { (shape : Shape) → IfOk made.entry (IsCommand shape) → IfOk result (IsCommand (record shape { rules = shape.rules ++ flag_rule name.now ∷ [] })) }
-{
-    with(made, flag(alloc, name))
+    let mut longer = made;
+    for part in parts {
+        longer = with(longer, argument(alloc, *part));
+    }
+    longer
 }
 
 /// The command that runs a made schedule.
 fn exercise_command<'a>(alloc: Global) -> Result<Command<'a>, AllocError>
     ensures { IfOk result (IsCommand exercise_shape) }
 {
-    let made = with_option(Ok(Command::new(alloc, "exercise")), alloc, "seed");
-    with_option(made, alloc, "events")
+    with_parts(
+        Ok(Command::new(alloc, "exercise")),
+        alloc,
+        &[Part::Needed("seed"), Part::Needed("events")],
+    )
 }
 
 /// A command of this name over a node's files.
 fn files_command<'a>(alloc: Global, name: &'a str) -> Result<Command<'a>, AllocError>
     ensures { IfOk result (IsCommand (files_shape name.now)) }
 {
-    let made = with_option(Ok(Command::new(alloc, name)), alloc, "id");
-    let made = with_option(made, alloc, "config");
-    let made = with_option(made, alloc, "store");
-    with_option(made, alloc, "register")
+    with_parts(
+        Ok(Command::new(alloc, name)),
+        alloc,
+        &[
+            Part::Needed("id"),
+            Part::Needed("config"),
+            Part::Needed("store"),
+            Part::Needed("register"),
+        ],
+    )
 }
 
 /// The command that serves a node.
 fn node_command<'a>(alloc: Global) -> Result<Command<'a>, AllocError>
     ensures { IfOk result (IsCommand node_shape) }
 {
-    let made = with_choice(files_command(alloc, "node"), alloc, "port");
-    let made = with_choice(made, alloc, "listen");
-    let made = with_choice(made, alloc, "turns");
-    let made = with_choice(made, alloc, "peers");
-    let made = with_choice(made, alloc, "idle");
-    let made = with_flag(made, alloc, "format");
-    with_flag(made, alloc, "quiet")
+    with_parts(
+        files_command(alloc, "node"),
+        alloc,
+        &[
+            Part::Choice("port"),
+            Part::Choice("listen"),
+            Part::Choice("turns"),
+            Part::Choice("peers"),
+            Part::Choice("idle"),
+            Part::Flag("format"),
+            Part::Flag("quiet"),
+        ],
+    )
 }
 
 /// A command of this name over a log.
 fn log_command<'a>(alloc: Global, name: &'a str) -> Result<Command<'a>, AllocError>
     ensures { IfOk result (IsCommand (log_shape name.now)) }
 {
-    let made = with_option(Ok(Command::new(alloc, name)), alloc, "config");
-    let made = with_option(made, alloc, "log");
-    let made = with_option(made, alloc, "register");
-    let made = with_choice(made, alloc, "port");
-    let made = with_choice(made, alloc, "at");
-    with_choice(made, alloc, "limit")
+    with_parts(
+        Ok(Command::new(alloc, name)),
+        alloc,
+        &[
+            Part::Needed("config"),
+            Part::Needed("log"),
+            Part::Needed("register"),
+            Part::Choice("port"),
+            Part::Choice("at"),
+            Part::Choice("limit"),
+        ],
+    )
 }
 
 /// The command that appends to a log.
 fn append_command<'a>(alloc: Global) -> Result<Command<'a>, AllocError>
     ensures { IfOk result (IsCommand append_shape) }
 {
-    let made = with_option(log_command(alloc, "append"), alloc, "rounds");
-    let made = with_choice(made, alloc, "in-flight");
-    let made = with_flag(made, alloc, "batches");
-    let made = with_flag(made, alloc, "move");
-    with_flag(made, alloc, "text")
+    with_parts(
+        log_command(alloc, "append"),
+        alloc,
+        &[
+            Part::Needed("rounds"),
+            Part::Choice("in-flight"),
+            Part::Flag("batches"),
+            Part::Flag("move"),
+            Part::Flag("text"),
+        ],
+    )
 }
 
 /// The command that reads a log.
 fn tail_command<'a>(alloc: Global) -> Result<Command<'a>, AllocError>
     ensures { IfOk result (IsCommand tail_shape) }
 {
-    let made = with_choice(log_command(alloc, "tail"), alloc, "rounds");
-    let made = with_option(made, alloc, "from");
-    let made = with_choice(made, alloc, "until");
-    let made = with_choice(made, alloc, "pause");
-    let made = with_flag(made, alloc, "follow");
-    let made = with_flag(made, alloc, "one-copy");
-    let made = with_flag(made, alloc, "messages");
-    let made = with_flag(made, alloc, "text");
-    with_flag(made, alloc, "json")
+    with_parts(
+        log_command(alloc, "tail"),
+        alloc,
+        &[
+            Part::Choice("rounds"),
+            Part::Needed("from"),
+            Part::Choice("until"),
+            Part::Choice("pause"),
+            Part::Flag("follow"),
+            Part::Flag("one-copy"),
+            Part::Flag("messages"),
+            Part::Flag("text"),
+            Part::Flag("json"),
+        ],
+    )
 }
 
 /// The command that tells what the register says of a log, or that copies it.
 fn register_command<'a>(alloc: Global) -> Result<Command<'a>, AllocError>
     ensures { IfOk result (IsCommand register_shape) }
 {
-    let made = with_option(Ok(Command::new(alloc, "register")), alloc, "register");
-    let made = with_choice(made, alloc, "config");
-    let made = with_choice(made, alloc, "log");
-    let made = with_choice(made, alloc, "from");
-    let made = with_flag(made, alloc, "json");
-    with_choice(made, alloc, "copy")
+    with_parts(
+        Ok(Command::new(alloc, "register")),
+        alloc,
+        &[
+            Part::Needed("register"),
+            Part::Choice("config"),
+            Part::Choice("log"),
+            Part::Choice("from"),
+            Part::Flag("json"),
+            Part::Choice("copy"),
+        ],
+    )
 }
 
 /// The command that tells what the register and each node say of a log.
 fn status_command<'a>(alloc: Global) -> Result<Command<'a>, AllocError>
     ensures { IfOk result (IsCommand status_shape) }
 {
-    let made = with_choice(log_command(alloc, "status"), alloc, "epochs");
-    with_flag(made, alloc, "json")
+    with_parts(
+        log_command(alloc, "status"),
+        alloc,
+        &[Part::Choice("epochs"), Part::Flag("json")],
+    )
 }
 
 /// The command by which a stopped node learns what it missed.
 fn mend_command<'a>(alloc: Global) -> Result<Command<'a>, AllocError>
     ensures { IfOk result (IsCommand mend_shape) }
 {
-    let made = with_choice(files_command(alloc, "mend"), alloc, "port");
-    let made = with_choice(made, alloc, "at");
-    let made = with_option(made, alloc, "rounds");
-    with_choice(made, alloc, "limit")
+    with_parts(
+        files_command(alloc, "mend"),
+        alloc,
+        &[
+            Part::Choice("port"),
+            Part::Choice("at"),
+            Part::Needed("rounds"),
+            Part::Choice("limit"),
+        ],
+    )
 }
 
 /// The command by which a stopped node takes another one's place.
 fn replace_command<'a>(alloc: Global) -> Result<Command<'a>, AllocError>
     ensures { IfOk result (IsCommand replace_shape) }
 {
-    let made = with_option(files_command(alloc, "replace"), alloc, "of");
-    with_option(made, alloc, "log")
+    with_parts(
+        files_command(alloc, "replace"),
+        alloc,
+        &[Part::Needed("of"), Part::Needed("log")],
+    )
 }
 
 /// The command that shows the store of a stopped node.
 fn show_command<'a>(alloc: Global) -> Result<Command<'a>, AllocError>
     ensures { IfOk result (IsCommand show_shape) }
 {
-    let made = with_option(Ok(Command::new(alloc, "show")), alloc, "id");
-    let made = with_option(made, alloc, "config");
-    let made = with_option(made, alloc, "store");
-    with_flag(made, alloc, "json")
+    with_parts(
+        Ok(Command::new(alloc, "show")),
+        alloc,
+        &[
+            Part::Needed("id"),
+            Part::Needed("config"),
+            Part::Needed("store"),
+            Part::Flag("json"),
+        ],
+    )
 }
 
 /// The command that trims a log.
 fn trim_command<'a>(alloc: Global) -> Result<Command<'a>, AllocError>
     ensures { IfOk result (IsCommand trim_shape) }
 {
-    let made = with_option(log_command(alloc, "trim"), alloc, "rounds");
-    with_option(made, alloc, "upto")
+    with_parts(
+        log_command(alloc, "trim"),
+        alloc,
+        &[Part::Needed("rounds"), Part::Needed("upto")],
+    )
 }
 
 /// The commands with one more, where both could be made.

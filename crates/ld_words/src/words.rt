@@ -12,6 +12,10 @@ ghost use Rattle.ld_words.specs.declared.command.StatusWords.{StatusWords as Ask
 ghost use Rattle.ld_words.specs.declared.command.TrimWords.{TrimWords as Trimming};
 ghost use Rattle.ld_words.specs.declared.command.Command.{Command as Choice};
 ghost use Rattle.ld_words.specs.Meaning.{IsExercise, IsTurns, IsNodeWords, IsLsn, IsLogWords, IsAppendWords, IsRange, IsTailWords, IsRegisterWords, IsStatusWords, IsTrimWords, is_true, style_of, shown_of, IsNamed, IsFound, Asks, IsNoCommand, ArePlacesOf, ArePlacesOfNode, ArePlacesOfLog, AreFilesAlone, HasNoPlaces, AskForPlaces, AskForNoPlaces};
+ghost use Rattle.ld_words.specs.declared.words.ServeWords.{ServeWords as Serving};
+ghost use Rattle.ld_words.specs.declared.words.ReachWords.{ReachWords as Reached};
+ghost use Rattle.ld_words.specs.declared.words.ReadWords.{ReadWords as Reading};
+ghost use Rattle.ld_words.specs.Parts.{IsServeWords, IsReachWords, IsReachInBounds, IsPace, IsReadWords, IsRegisterFrom, IsDepth};
 ghost use Rattle.ld_words.specs.Refuses.{Refuses};
 ghost use Rattle.ld_words.specs.Bounds.{IsLogInBounds, IsAppendInBounds, IsTailInBounds, IsRegisterInBounds, IsStatusInBounds, IsTrimInBounds, HasBounds};
 
@@ -29,7 +33,8 @@ use crate::{
     Reach, RegisterWords, Shown, StatusWords, TailWords, TrimWords,
 };
 use clap::ArgMatches;
-use ld_ids::NoMemory;
+use ld_config::Config;
+use ld_ids::{LogId, NoMemory};
 use ld_lsn::Lsn;
 use ld_msg::Style;
 use std::alloc::Global;
@@ -50,6 +55,46 @@ fn turns(matches: &ArgMatches<'_>) -> Result<u64, Refusal>
     }
 }
 
+/// The files of a node, where it listens, and after how many turns it ends.
+#[derive(Drop)]
+struct ServeWords {
+    store: FileName,
+    register: FileName,
+    listen: Listen,
+    turns: u64,
+}
+
+/// What the arguments say of a node, but for its number and its configuration.
+fn serve_words(alloc: Global, matches: &ArgMatches<'_>) -> Result<ServeWords, Refusal>
+    ensures { MatchResult result
+        (IsServeWords (rows_of (found_of matches.now)))
+        (Refuses ((s : Serving) → IsServeWords (rows_of (found_of matches.now)) s → ⊥)) }
+{
+    let (store, register) = files(alloc, matches)?;
+    let listen = match listen(alloc, matches) {
+        Ok(listen) => listen,
+        Err(refusal) => {
+            drop(store);
+            drop(register);
+            return Err(refusal);
+        }
+    };
+    match turns(matches) {
+        Ok(turns) => Ok(ServeWords {
+            store,
+            register,
+            listen,
+            turns,
+        }),
+        Err(refusal) => {
+            drop(store);
+            drop(register);
+            drop(listen);
+            Err(refusal)
+        }
+    }
+}
+
 /// What the arguments say of a node.
 fn node_words(alloc: Global, matches: &ArgMatches<'_>) -> Result<NodeWords, Refusal>
     ensures says { MatchResult result
@@ -58,19 +103,22 @@ fn node_words(alloc: Global, matches: &ArgMatches<'_>) -> Result<NodeWords, Refu
     ensures bounds { IfOk result (λ n. IsInBounds n.config) }
 {
     let (id, config) = node_of(alloc, matches)?;
-    let (store, register) = files(alloc, matches)?;
-    let listen = listen(alloc, matches)?;
-    let turns = turns(matches)?;
-    Ok(NodeWords {
-        id,
-        config,
-        store,
-        register,
-        listen,
-        turns,
-        format: flag(matches, "format"),
-        quiet: flag(matches, "quiet"),
-    })
+    match serve_words(alloc, matches) {
+        Ok(serving) => Ok(NodeWords {
+            id,
+            config,
+            store: serving.store,
+            register: serving.register,
+            listen: serving.listen,
+            turns: serving.turns,
+            format: flag(matches, "format"),
+            quiet: flag(matches, "quiet"),
+        }),
+        Err(refusal) => {
+            drop(config);
+            Err(refusal)
+        }
+    }
 }
 
 /// The command that serves a node: its peers one after the other, or several at once where the arguments say how many.
@@ -114,6 +162,56 @@ fn node_command(alloc: Global, matches: &ArgMatches<'_>) -> Result<Command, Refu
     }))
 }
 
+/// A log of a configuration, the file of its register, and where the configuration's nodes are.
+#[derive(Drop)]
+struct ReachWords {
+    config: Config,
+    log: LogId,
+    register: FileName,
+    reach: Reach,
+}
+
+/// What the arguments say of a log and of how it is reached.
+fn reach_words(alloc: Global, matches: &ArgMatches<'_>) -> Result<ReachWords, Refusal>
+    ensures says { MatchResult result
+        (IsReachWords (rows_of (found_of matches.now)))
+        (Refuses ((r : Reached) → IsReachWords (rows_of (found_of matches.now)) r → ⊥)) }
+    ensures bounds { IfOk result IsReachInBounds }
+{
+    let (log, config) = known_log(alloc, matches)?;
+    let register = match file_name(alloc, matches, "register") {
+        Ok(register) => register,
+        Err(refusal) => {
+            drop(config);
+            return Err(refusal);
+        }
+    };
+    match reach(alloc, matches, &config.nodes) {
+        Ok(reach) => Ok(ReachWords {
+            config,
+            log,
+            register,
+            reach,
+        }),
+        Err(refusal) => {
+            drop(config);
+            drop(register);
+            Err(refusal)
+        }
+    }
+}
+
+/// After how many rounds a command over a log gives up, and how long it waits for a node.
+fn pace(matches: &ArgMatches<'_>) -> Result<(u64, u32), Refusal>
+    ensures { MatchResult result
+        (λ p. IsPace (rows_of (found_of matches.now)) p.0 p.1)
+        (Refuses ((many most : ℕ) → IsPace (rows_of (found_of matches.now)) many most → ⊥)) }
+{
+    let rounds = rounds(matches)?;
+    let limit = number_or(matches, "limit", 100, 60_000, 10_000)?;
+    Ok((rounds, limit as u32))
+}
+
 /// What the arguments say of a log.
 fn log_words(alloc: Global, matches: &ArgMatches<'_>) -> Result<LogWords, Refusal>
     ensures says { MatchResult result
@@ -121,19 +219,21 @@ fn log_words(alloc: Global, matches: &ArgMatches<'_>) -> Result<LogWords, Refusa
         (Refuses ((w : Log) → IsLogWords (rows_of (found_of matches.now)) w → ⊥)) }
     ensures bounds { IfOk result IsLogInBounds }
 {
-    let (log, config) = known_log(alloc, matches)?;
-    let register = file_name(alloc, matches, "register")?;
-    let reach = reach(alloc, matches, &config.nodes)?;
-    let rounds = rounds(matches)?;
-    let limit = number_or(matches, "limit", 100, 60_000, 10_000)?;
-    Ok(LogWords {
-        config,
-        log,
-        register,
-        reach,
-        rounds,
-        limit: limit as u32,
-    })
+    let reached = reach_words(alloc, matches)?;
+    match pace(matches) {
+        Ok((rounds, limit)) => Ok(LogWords {
+            config: reached.config,
+            log: reached.log,
+            register: reached.register,
+            reach: reached.reach,
+            rounds,
+            limit,
+        }),
+        Err(refusal) => {
+            drop(reached);
+            Err(refusal)
+        }
+    }
 }
 
 /// What the arguments say of a log that is appended to.
@@ -181,8 +281,10 @@ fn trim_words(alloc: Global, matches: &ArgMatches<'_>) -> Result<TrimWords, Refu
     ensures bounds { IfOk result IsTrimInBounds }
 {
     let upto = upto(matches)?;
-    let of = log_words(alloc, matches)?;
-    Ok(TrimWords { of, upto })
+    match log_words(alloc, matches) {
+        Ok(of) => Ok(TrimWords { of, upto }),
+        Err(refusal) => Err(refusal),
+    }
 }
 
 /// How payloads come, and are written.
@@ -231,6 +333,35 @@ fn range(matches: &ArgMatches<'_>) -> Result<(Lsn, Lsn), Refusal>
     Ok((from, until))
 }
 
+/// Which numbers of a log are read, and how.
+#[derive(Clone, Copy)]
+struct ReadWords {
+    from: Lsn,
+    until: Lsn,
+    style: Style,
+    pause: u32,
+    shown: Shown,
+}
+
+/// What the arguments say of how a log is read.
+fn read_words(matches: &ArgMatches<'_>) -> Result<ReadWords, Refusal>
+    ensures { MatchResult result
+        (IsReadWords (rows_of (found_of matches.now)))
+        (Refuses ((r : Reading) → IsReadWords (rows_of (found_of matches.now)) r → ⊥)) }
+{
+    let (from, until) = range(matches)?;
+    let style = style(matches)?;
+    let pause = pause(matches)?;
+    let shown = form(matches)?;
+    Ok(ReadWords {
+        from,
+        until,
+        style,
+        pause,
+        shown,
+    })
+}
+
 /// What the arguments say of a log that is read.
 fn tail_words(alloc: Global, matches: &ArgMatches<'_>) -> Result<TailWords, Refusal>
     ensures says { MatchResult result
@@ -239,18 +370,36 @@ fn tail_words(alloc: Global, matches: &ArgMatches<'_>) -> Result<TailWords, Refu
     ensures bounds { IfOk result IsTailInBounds }
 {
     let of = log_words(alloc, matches)?;
-    let (from, until) = range(matches)?;
-    let style = style(matches)?;
-    let pause = pause(matches)?;
-    let shown = form(matches)?;
-    Ok(TailWords {
-        of,
-        from,
-        until,
-        style,
-        pause,
-        shown,
-    })
+    match read_words(matches) {
+        Ok(reading) => Ok(TailWords {
+            of,
+            from: reading.from,
+            until: reading.until,
+            style: reading.style,
+            pause: reading.pause,
+            shown: reading.shown,
+        }),
+        Err(refusal) => {
+            drop(of);
+            Err(refusal)
+        }
+    }
+}
+
+/// The file of the register that is asked, and the first epoch that is told.
+fn register_from(alloc: Global, matches: &ArgMatches<'_>) -> Result<(FileName, u32), Refusal>
+    ensures { MatchResult result
+        (λ r. IsRegisterFrom (rows_of (found_of matches.now)) r.0 r.1)
+        (Refuses ((kept : Text) (first : ℕ) → IsRegisterFrom (rows_of (found_of matches.now)) kept first → ⊥)) }
+{
+    let register = file_name(alloc, matches, "register")?;
+    match number_or(matches, "from", 1, 4_294_967_295, 1) {
+        Ok(from) => Ok((register, from as u32)),
+        Err(refusal) => {
+            drop(register);
+            Err(refusal)
+        }
+    }
 }
 
 /// What the arguments say of a log of which the register is asked.
@@ -261,15 +410,30 @@ fn register_words(alloc: Global, matches: &ArgMatches<'_>) -> Result<RegisterWor
     ensures bounds { IfOk result IsRegisterInBounds }
 {
     let (log, config) = known_log(alloc, matches)?;
-    let register = file_name(alloc, matches, "register")?;
-    let from = number_or(matches, "from", 1, 4_294_967_295, 1)?;
-    Ok(RegisterWords {
-        config,
-        log,
-        register,
-        from: from as u32,
-        json: flag(matches, "json"),
-    })
+    match register_from(alloc, matches) {
+        Ok((register, from)) => Ok(RegisterWords {
+            config,
+            log,
+            register,
+            from,
+            json: flag(matches, "json"),
+        }),
+        Err(refusal) => {
+            drop(config);
+            Err(refusal)
+        }
+    }
+}
+
+/// How long a command waits for a node, and how many epochs it tells.
+fn depth(matches: &ArgMatches<'_>) -> Result<(u32, u32), Refusal>
+    ensures { MatchResult result
+        (λ d. IsDepth (rows_of (found_of matches.now)) d.0 d.1)
+        (Refuses ((most many : ℕ) → IsDepth (rows_of (found_of matches.now)) most many → ⊥)) }
+{
+    let limit = number_or(matches, "limit", 100, 60_000, 10_000)?;
+    let epochs = number_or(matches, "epochs", 1, 1_000_000, 16)?;
+    Ok((limit as u32, epochs as u32))
 }
 
 /// What the arguments say of a log of which the register and the nodes are asked.
@@ -279,20 +443,22 @@ fn status_words(alloc: Global, matches: &ArgMatches<'_>) -> Result<StatusWords, 
         (Refuses ((s : Asking) → IsStatusWords (rows_of (found_of matches.now)) s → ⊥)) }
     ensures bounds { IfOk result IsStatusInBounds }
 {
-    let (log, config) = known_log(alloc, matches)?;
-    let register = file_name(alloc, matches, "register")?;
-    let reach = reach(alloc, matches, &config.nodes)?;
-    let limit = number_or(matches, "limit", 100, 60_000, 10_000)?;
-    let epochs = number_or(matches, "epochs", 1, 1_000_000, 16)?;
-    Ok(StatusWords {
-        config,
-        log,
-        register,
-        reach,
-        limit: limit as u32,
-        epochs: epochs as u32,
-        json: flag(matches, "json"),
-    })
+    let reached = reach_words(alloc, matches)?;
+    match depth(matches) {
+        Ok((limit, epochs)) => Ok(StatusWords {
+            config: reached.config,
+            log: reached.log,
+            register: reached.register,
+            reach: reached.reach,
+            limit,
+            epochs,
+            json: flag(matches, "json"),
+        }),
+        Err(refusal) => {
+            drop(reached);
+            Err(refusal)
+        }
+    }
 }
 
 /// The seed and the number of events that the arguments say.

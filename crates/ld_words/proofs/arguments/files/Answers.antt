@@ -10,8 +10,5 @@ returns-in_err-store c =
     ((store register : Text) → AreFiles (rows_of (found_of c.args.matches.now)) store register → ⊥) c.from_residual.ensures.1 c.in_err-store.ensures
     (λ none store register files. not_none _ _ files.first none)
 
-pub returns-in_err-register : goal.returns-in_err-register
-returns-in_err-register c =
-    refused c.from_residual-in_err-register.result c.in_err-register.field-0.0 (λ f. AreFiles (rows_of (found_of c.args.matches.now)) f.0 f.1) _
-    ((store register : Text) → AreFiles (rows_of (found_of c.args.matches.now)) store register → ⊥) c.from_residual-in_err-register.ensures.1 c.in_err-register.ensures
-    (λ none store register files. not_none _ _ files.second none)
+pub returns-in-Err : goal.returns-in-Err
+returns-in-Err c other store register files = not_none _ _ files.second (c.in-Err.ensures other)

@@ -24,8 +24,6 @@ returns-in_err-config-clause-says c =
     ((l : ℕ) (d : Config) → IsKnownLog (rows_of (found_of c.args.matches.now)) l d → ⊥) c.from_residual-in_err-config.ensures.1 c.in_err-config.ensures.says
     (λ none l d known. no_known_config (rows_of (found_of c.args.matches.now)) c.in_ok-text.field-0.now c.in_ok-text.ensures l d known none)
 
-pub returns-in_err-log-2-clause-says : goal.returns-in_err-log-2-clause-says
-returns-in_err-log-2-clause-says c =
-    refused c.from_residual-in_err-log-2.result c.in_err-log-2.field-0.0 (λ r. IsKnownLog (rows_of (found_of c.args.matches.now)) r.0 r.1) _
-    ((l : ℕ) (d : Config) → IsKnownLog (rows_of (found_of c.args.matches.now)) l d → ⊥) c.from_residual-in_err-log-2.ensures.1 c.in_err-log-2.ensures
-    (λ none l d known. no_known_log (rows_of (found_of c.args.matches.now)) c.in_ok-log.log c.in_ok-text.field-0.now c.in_ok-config.config c.in_ok-log.ensures c.in_ok-text.ensures c.in_ok-config.ensures.says l d known none)
+pub returns-in-Err-clause-says : goal.returns-in-Err-clause-says
+returns-in-Err-clause-says c other l d known =
+    no_known_log (rows_of (found_of c.args.matches.now)) c.in_ok-log.log c.in_ok-text.field-0.now c.in_ok-config.config c.in_ok-log.ensures c.in_ok-text.ensures c.in_ok-config.ensures.says l d known (c.in-Err.ensures other)

@@ -24,8 +24,6 @@ returns-in_err-config-clause-says c =
     ((n : ℕ) (d : Config) → IsNodeOf (rows_of (found_of c.args.matches.now)) n d → ⊥) c.from_residual-in_err-config.ensures.1 c.in_err-config.ensures.says
     (λ none n d node. no_config_of (rows_of (found_of c.args.matches.now)) c.in_ok-text.field-0.now c.in_ok-text.ensures n d node none)
 
-pub returns-in_err-id-2-clause-says : goal.returns-in_err-id-2-clause-says
-returns-in_err-id-2-clause-says c =
-    refused c.from_residual-in_err-id-2.result c.in_err-id-2.field-0.0 (λ r. IsNodeOf (rows_of (found_of c.args.matches.now)) r.0 r.1) _
-    ((n : ℕ) (d : Config) → IsNodeOf (rows_of (found_of c.args.matches.now)) n d → ⊥) c.from_residual-in_err-id-2.ensures.1 c.in_err-id-2.ensures
-    (λ none n d node. no_node_of (rows_of (found_of c.args.matches.now)) c.in_ok-id.id c.in_ok-text.field-0.now c.in_ok-config.config c.in_ok-id.ensures c.in_ok-text.ensures c.in_ok-config.ensures.says n d node none)
+pub returns-in-Err-clause-says : goal.returns-in-Err-clause-says
+returns-in-Err-clause-says c other n d node =
+    no_node_of (rows_of (found_of c.args.matches.now)) c.in_ok-id.id c.in_ok-text.field-0.now c.in_ok-config.config c.in_ok-id.ensures c.in_ok-text.ensures c.in_ok-config.ensures.says n d node (c.in-Err.ensures other)

@@ -13,7 +13,5 @@ returns-in_err-from c =
     refused_one c.from_residual-in_err-from.result c.in_err-from.field-0.0 (IsCopyWords (rows_of (found_of c.args.matches.now))) _ c.from_residual-in_err-from.ensures.1 c.in_err-from.ensures
     (λ w words none. not_none _ _ words.copy none)
 
-pub returns-in_err-register : goal.returns-in_err-register
-returns-in_err-register c =
-    refused_one c.from_residual-in_err-register.result c.in_err-register.field-0.0 (IsCopyWords (rows_of (found_of c.args.matches.now))) _ c.from_residual-in_err-register.ensures.1 c.in_err-register.ensures
-    (λ w words none. not_none _ _ words.register none)
+pub returns-in-Err : goal.returns-in-Err
+returns-in-Err c other w words = not_none _ _ words.register (c.in-Err.ensures other)

@@ -8,7 +8,5 @@ returns-in_err-store-clause-says c =
     refused_one c.from_residual.result c.in_err-store.field-0.0 (IsShowWords (rows_of (found_of c.args.matches.now))) _ c.from_residual.ensures.1 c.in_err-store.ensures
     (λ s words none. not_none _ _ words.store none)
 
-pub returns-in_err-id-clause-says : goal.returns-in_err-id-clause-says
-returns-in_err-id-clause-says c =
-    refused_one c.from_residual-in_err-id.result c.in_err-id.field-0.0 (IsShowWords (rows_of (found_of c.args.matches.now))) _ c.from_residual-in_err-id.ensures.1 c.in_err-id.ensures.says
-    (λ s words none. none s.id s.config words.node)
+pub returns-in-Err-clause-says : goal.returns-in-Err-clause-says
+returns-in-Err-clause-says c other s words = c.in-Err.ensures.says other s.id s.config words.node

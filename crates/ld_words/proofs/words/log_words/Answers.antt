@@ -1,49 +1,32 @@
 use Rattle.clap.specs.Words.{rows_of, found_of}
 use Rattle.ld_words.specs.Meaning.{IsLogWords}
-use Rattle.ld_words.proofs.OneCommand.{no_log_reach}
-use Rattle.ld_words.proofs.Refused.{refused_one, not_none}
+use Rattle.ld_words.proofs.Refused.{refused_one}
 use Rattle.ld_words.proofs.words.log_words.Goals as goal
 
-pub returns-in_err-log-clause-says : goal.returns-in_err-log-clause-says
-returns-in_err-log-clause-says c =
-    refused_one c.from_residual.result c.in_err-log.field-0.0 (IsLogWords (rows_of (found_of c.args.matches.now))) _ c.from_residual.ensures.1 c.in_err-log.ensures.says
-    (λ w words none. none w.log w.config (record { config = words.config; log = words.log; known = words.known }))
+pub returns-in_err-reached-clause-says : goal.returns-in_err-reached-clause-says
+returns-in_err-reached-clause-says c =
+    refused_one c.from_residual.result c.in_err-reached.field-0.0 (IsLogWords (rows_of (found_of c.args.matches.now))) _ c.from_residual.ensures.1 c.in_err-reached.ensures.says
+    (λ w words none. none (record { config = w.config; log = w.log; register = w.register; reach = w.reach })
+    (record { config = words.config; log = words.log; known = words.known; register = words.register; reach = words.reach }))
 
-pub returns-in_err-register-clause-says : goal.returns-in_err-register-clause-says
-returns-in_err-register-clause-says c =
-    refused_one c.from_residual-in_err-register.result c.in_err-register.field-0.0 (IsLogWords (rows_of (found_of c.args.matches.now))) _ c.from_residual-in_err-register.ensures.1 c.in_err-register.ensures
-    (λ w words none. not_none _ _ words.register none)
+pub returns-in-Err-clause-says : goal.returns-in-Err-clause-says
+returns-in-Err-clause-says c other w words = c.in-Err.ensures other w.rounds w.limit (record { rounds = words.rounds; limit = words.limit })
 
-pub returns-in_err-reach-clause-says : goal.returns-in_err-reach-clause-says
-returns-in_err-reach-clause-says c =
-    refused_one c.from_residual-in_err-reach.result c.in_err-reach.field-0.0 (IsLogWords (rows_of (found_of c.args.matches.now))) _ c.from_residual-in_err-reach.ensures.1 c.in_err-reach.ensures.says
-    (no_log_reach (rows_of (found_of c.args.matches.now)) c.in_ok-log.config c.in_ok-log.ensures.says.config)
-
-pub returns-in_err-rounds-clause-says : goal.returns-in_err-rounds-clause-says
-returns-in_err-rounds-clause-says c =
-    refused_one c.from_residual-in_err-rounds.result c.in_err-rounds.field-0.0 (IsLogWords (rows_of (found_of c.args.matches.now))) _ c.from_residual-in_err-rounds.ensures.1 c.in_err-rounds.ensures
-    (λ w words none. none w.rounds words.rounds)
-
-pub returns-in_err-limit-clause-says : goal.returns-in_err-limit-clause-says
-returns-in_err-limit-clause-says c =
-    refused_one c.from_residual-in_err-limit.result c.in_err-limit.field-0.0 (IsLogWords (rows_of (found_of c.args.matches.now))) _ c.from_residual-in_err-limit.ensures.1 c.in_err-limit.ensures
-    (λ w words none. none w.limit words.limit)
-
-pub returns : goal.returns
-returns c =
+pub returns-in-Ok : goal.returns-in-Ok
+returns-in-Ok c =
     record {
       says = record {
-        config = c.in_ok-log.ensures.says.config;
-        log = c.in_ok-log.ensures.says.log;
-        known = c.in_ok-log.ensures.says.known;
-        register = c.in_ok-register.ensures;
-        reach = c.in_ok-reach.ensures.says;
-        rounds = c.in_ok-rounds.ensures;
-        limit = c.in_ok-limit.ensures;
+        config = c.in_ok-reached.ensures.says.config;
+        log = c.in_ok-reached.ensures.says.log;
+        known = c.in_ok-reached.ensures.says.known;
+        register = c.in_ok-reached.ensures.says.register;
+        reach = c.in_ok-reached.ensures.says.reach;
+        rounds = c.in-Ok.ensures.rounds;
+        limit = c.in-Ok.ensures.limit;
       };
       bounds = record {
-        config = c.in_ok-log.ensures.bounds;
-        log = c.in_ok-log.ensures.says.known.has;
-        nodes = c.in_ok-reach.ensures.bounds;
+        config = c.in_ok-reached.ensures.bounds.config;
+        log = c.in_ok-reached.ensures.bounds.log;
+        nodes = c.in_ok-reached.ensures.bounds.nodes;
       };
     }

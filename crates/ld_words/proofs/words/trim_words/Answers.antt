@@ -8,7 +8,5 @@ returns-in_err-upto-clause-says c =
     refused_one c.from_residual.result c.in_err-upto.field-0.0 (IsTrimWords (rows_of (found_of c.args.matches.now))) _ c.from_residual.ensures.1 c.in_err-upto.ensures
     (λ t words none. none t.upto words.upto words.some)
 
-pub returns-in_err-of-clause-says : goal.returns-in_err-of-clause-says
-returns-in_err-of-clause-says c =
-    refused_one c.from_residual-in_err-of.result c.in_err-of.field-0.0 (IsTrimWords (rows_of (found_of c.args.matches.now))) _ c.from_residual-in_err-of.ensures.1 c.in_err-of.ensures.says
-    (λ t words none. none t.of words.of)
+pub returns-in-Err-clause-says : goal.returns-in-Err-clause-says
+returns-in-Err-clause-says c other t words = c.in-Err.ensures.says other t.of words.of
