@@ -1,5 +1,5 @@
 // A borrowed crowd is one.
-use crate::{Crowd, Heard, Turn};
+use crate::{Crowd, Heard, News, Turn};
 use ld_io::{Failed, NoMemory};
 
 impl<C: Crowd> Crowd for &mut C {
@@ -31,5 +31,9 @@ impl<C: Crowd> Crowd for &mut C {
 
     fn dismiss(&mut self, peer: u64) {
         (**self).dismiss(peer)
+    }
+
+    fn note(&mut self, news: News) {
+        (**self).note(news)
     }
 }

@@ -10,11 +10,13 @@ ghost use Rattle.ld_crowd.specs.Left.{Hears};
 mod borrowed;
 mod laws;
 mod memory;
+mod news;
 mod seat;
 
 pub use laws::{one_after_the_other, one_frame_more};
 use ld_io::{Failed, NoMemory};
 pub use memory::{MemCrowd, Step};
+pub use news::News;
 
 /// Whose turn it is.
 #[derive(Clone, Copy, PartialEq, Eq)]
@@ -89,6 +91,12 @@ pub trait Crowd {
     /// Dismisses a peer at once.
     fn dismiss(&mut self, peer: u64)
         ensures did { did self.new ≡ dismissed peer ∷ did self.old }
+        ensures left { left self.new ≡ left self.old }
+        ensures faults { faults self.new ≡ faults self.old };
+
+    /// Tells whoever runs the node what became of it. It is no call of a peer, and changes nothing of the crowd.
+    fn note(&mut self, news: News)
+        ensures did { did self.new ≡ did self.old }
         ensures left { left self.new ≡ left self.old }
         ensures faults { faults self.new ≡ faults self.old };
 }

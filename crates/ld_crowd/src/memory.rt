@@ -9,7 +9,7 @@ ghost use Rattle.ld_crowd.specs.Left.{Gives, Hears};
 ghost use Rattle.ld_crowd.specs.Memory.{call_succeeds, lefts, at_seat, allowed, told_more, turn_of, seats_after, heard_at, heard_of, TakesStep};
 
 use crate::seat::MemPeer;
-use crate::{Crowd, Heard, Turn};
+use crate::{Crowd, Heard, News, Turn};
 use ld_io::{Failed, NoMemory};
 use ld_past::Past;
 use std::alloc::Global;
@@ -323,4 +323,9 @@ impl Crowd for MemCrowd {
     {
         self.did.note(&[8, peer], &[]);
     }
+
+    /// Keeps nothing: there is nobody to tell.
+    fn note(&mut self, _news: News)
+        ensures same { self.new ≡ self.old }
+    {}
 }

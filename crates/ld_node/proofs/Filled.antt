@@ -116,7 +116,7 @@ compared_if told m o op a place there is stands same = some_too told _ _ (λ byt
 
 -- ---- a store with no payload ----
 
-empty_from : (f : ℕ → ℕ) (at k : ℕ) → (k == 0) ≡ same (map f (numbers_from at k)) []
+pub empty_from : (f : ℕ → ℕ) (at k : ℕ) → (k == 0) ≡ same (map f (numbers_from at k)) []
 unfolding same
 empty_from f at zero = refl
 empty_from f at (suc k) = let e : (suc k == 0) ≡ false = grind (arith, nat_tests) in e

@@ -5,6 +5,7 @@ pub mod Handles
 pub mod Either
 pub mod Calls
 pub mod Filled
+pub mod ByIndex
 pub mod Loading
 pub mod Changes
 pub mod Quiet

@@ -1,11 +1,12 @@
 -- What a node makes of a message, by the decision on it, and once the payloads that it names are read.
-use Rattle.std.specs.Prelude.{ℕ, ◌≡◌, ◌⊎◌, map, Option, Some, None, if◌then◌else◌}
+use Rattle.std.specs.Prelude.{ℕ, ◌≡◌, ◌⊎◌, List, map, Bool, Option, Some, None, if◌then◌else◌}
 use Rattle.ld_table.specs.Words.{numbers_from}
 use Rattle.ld_msg.specs.declared.msg.Msg.{Msg}
 use Rattle.ld_msg.specs.declared.msg.Body.{Body}
 use Rattle.ld_msg.specs.declared.msg.Body.TheVariants as bodies
 use Rattle.ld_msg.specs.Bounds.{ballot_of}
 use Rattle.ld_op.specs.declared.op.Op.{Op}
+use Rattle.ld_op.specs.declared.pointed.Place.{Place}
 use Rattle.ld_op.specs.declared.op.Op.TheVariants as ops
 use Rattle.ld_op.specs.Answers.{Handled}
 use Rattle.ld_op.specs.Cells.{each_body}
@@ -76,6 +77,11 @@ IsEither m o (replies.Whole b) op = op ≡ o
 IsEither m o (replies.Page draft) op = op ≡ o
 IsEither m o (replies.Compare place) op = (op ≡ None) ⊎ (op ≡ accept_of m.log (ballot_of m.from) m.body)
 
+-- some bytes stand in the place, and tell so
+pub record StandsForSome (payload : List ℕ) (place : Place) (there : Bool) : Type 0 where
+  pub byte : ℕ → ℕ
+  pub is : there ≡ stands_there byte payload place
+
 module _ (f : ℕ → ℕ) where
   -- the answer, where f is what represents each byte
   abbrev pub reply_with : Msg → Reply → Option Body
@@ -102,3 +108,8 @@ module _ (f : ℕ → ℕ) where
   Stays (replies.Whole b) = Unit {0}
   Stays (replies.Page draft) = each_body f draft.body ≡ draft.body
   Stays (replies.Compare place) = map f (numbers_from place.at place.len) ≡ numbers_from place.at place.len
+
+-- the op that is kept, for some bytes in the places
+pub record IsForSome (m : Msg) (o : Option Op) (answer : Reply) (kept : Option Op) : Type 0 where
+  pub byte : ℕ → ℕ
+  pub is : kept ≡ op_with byte m o answer

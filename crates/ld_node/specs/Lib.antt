@@ -4,6 +4,7 @@ pub mod Faults
 pub mod Loads
 pub mod Msgs
 pub mod Known
+pub mod ByIndex
 pub mod Draws
 pub mod Formats
 pub mod Swaps

@@ -42,6 +42,10 @@ module _ {D : Type 0} {g : Ghosts D} where
   abbrev pub is_blank : Node D g → Bool
   is_blank node = stores.is_blank node.store
 
+  -- it was formatted since it was loaded
+  abbrev pub is_new : Node D g → Bool
+  is_new node = node.is_new
+
   -- its plain state in memory, with the places of its payloads
   abbrev pub index_of : Node D g → Plain
   index_of node = stores.index_of node.store

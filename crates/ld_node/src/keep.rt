@@ -77,6 +77,7 @@ pub(crate) fn stage<D: Disk>(
         → LeavesOnly D.moment D.left_since (disk_of store.old) (disk_of store.new) (StandsForEither p (plain_of store.old)) }
     ensures none { op ≡ None → result ≡ Ok tt }
     ensures applied { (p : Plain) → HoldsOr D.seen D.may_leave store.old p → OnOk result (plain_of store.new ≡ kept op (plain_of store.old)) }
+    ensures laid { OnOk result (layout_of store.new ≡ laid_with (layout_of store.old) op) }
     ensures refused { OnErr result ((index_of store.new ≡ index_of store.old) × (layout_of store.new ≡ layout_of store.old) × (slots_of store.new ≡ slots_of store.old)) }
     ensures blank { is_blank store.new ≡ false }
     ensures honest { IsHonest (D.seen (disk_of store.old)) → IsHonest (D.seen (disk_of store.new)) }

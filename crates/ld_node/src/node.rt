@@ -1,4 +1,6 @@
 // A node over its store.
+ghost use Rattle.ld_layout.specs.declared.segment.Growth.TheVariants.{Still, Wide};
+
 use crate::NodeFault;
 use crate::keep::{keep, stage};
 use crate::known::Known;
@@ -7,20 +9,23 @@ use crate::settled::prepare;
 use ld_config::Config;
 use ld_disk::{Disk, Fault};
 use ld_ids::NodeId;
+use ld_layout::Growth;
 use ld_lsn::Lsn;
 use ld_msg::{Msg, Replies};
+use ld_op::Plain;
 use ld_store::Store;
 use std::alloc::Global;
 use std::collections::BTreeMap;
 
 /// A node: its number, its store, what it knows of the configuration, and the released numbers of the logs, which are
-/// kept in memory alone.
+/// kept in memory alone; and whether it was formatted since it was loaded.
 #[derive(Drop)]
 pub struct Node<D: Disk> {
     pub(crate) id: NodeId,
     pub(crate) store: Store<D>,
     pub(crate) known: Known,
     released: BTreeMap<u32, Lsn>,
+    pub(crate) is_new: bool,
 }
 
 impl<D: Disk> Node<D> {
@@ -36,12 +41,14 @@ impl<D: Disk> Node<D> {
     ghost use Rattle.ld_store.specs.Ops.{StandsFor, StandsForEither, IfStands, IsOfFirst, HasNoRoom, IsDamaged};
     ghost use Rattle.ld_store.specs.Loads.{LeftOrMarked, Loads};
     ghost use Rattle.ld_op.specs.Plain.{Plain as State};
+    ghost use Rattle.ld_layout.specs.Layout.{switch_number};
     ghost use Rattle.ld_register.specs.declared.fault.RegisterFault.{RegisterFault as Refusal};
     ghost use Rattle.ld_node.specs.Known.{known_in};
     ghost use Rattle.ld_node.specs.Loads.{LoadRefused};
     ghost use Rattle.ld_node.specs.Changes.{kept, laid_with, slots_kept, calls_of, IsPast};
     ghost use Rattle.ld_node.specs.Msgs.{handled, released_after};
-    ghost use Rattle.ld_node.specs.Node.{id_of, known_of, released_of, disk_of, layout_of, slots_of, must_load, is_blank, index_of, plain_of, Holds, HoldsOr, HoldsEither, IsOpened};
+    ghost use Rattle.ld_node.specs.ByIndex.{DoesByIndex};
+    ghost use Rattle.ld_node.specs.Node.{id_of, known_of, released_of, disk_of, layout_of, slots_of, must_load, is_blank, is_new, index_of, plain_of, Holds, HoldsOr, HoldsEither, IsOpened};
 
     /// Loads the node of this number from its disk, in one writing call. A journal of the first version is then marked
     /// as one of the second, by a record more, before which its segment may be switched; that leaves the plain state as
@@ -60,7 +67,8 @@ impl<D: Disk> Node<D> {
         ensures node { IfOk result (λ node. (id_of node ≡ id) × (known_of node ≡ known_in config.now) × (released_of node ≡ [])) }
         ensures opens { IfOk result (λ node. IfSome (D.seen disk) (IsOpened D.seen D.may_leave node)) }
         ensures works { IfOk result (λ node. must_load node ≡ false) }
-        ensures still { IfOk result (λ node. (layout_of node).grows ≡ false) }
+        ensures old { IfOk result (λ node. is_new node ≡ false) }
+        ensures still { IfOk result (λ node. (layout_of node).grows ≡ Still) }
         ensures itself { MatchResult result (λ node. D.identity (disk_of node) ≡ D.identity disk) (λ e. D.identity e.0 ≡ D.identity disk) }
         ensures counts { MatchResult result (λ node. D.faults disk ≤ D.faults (disk_of node)) (λ e. D.faults disk ≤ D.faults e.0) }
         ensures steady { MatchResult result (λ node. D.faults (disk_of node) ≡ D.faults disk) (λ e. (e.1 ≡ NodeFault.Disk) ⊎ (D.faults e.0 ≡ D.faults disk)) }
@@ -107,6 +115,7 @@ impl<D: Disk> Node<D> {
                 store,
                 known,
                 released: BTreeMap::new(alloc),
+                is_new: false,
             }),
             Err((disk, fault)) => Err((disk, NodeFault::from(fault))),
         }
@@ -119,16 +128,37 @@ impl<D: Disk> Node<D> {
         self.store.is_blank()
     }
 
-    /// The node, which lets the room of each segment that its store begins grow with its Base. One that was loaded lets none
-    /// grow.
+    /// Whether it was formatted since it was loaded.
+    pub fn is_new(&self) -> bool
+        ensures { result ≡ is_new self.now }
+    {
+        self.is_new
+    }
+
+    /// Its plain state in memory, with the places of its payloads.
+    pub fn index(&self) -> &Plain
+        ensures { result.now.state ≡ index_of self.now }
+    {
+        self.store.index()
+    }
+
+    /// How many switches of its store there were to a new segment: 0 in the first one.
+    pub fn segment(&self) -> u64
+        ensures { result ≡ switch_number (layout_of self.now).later }
+    {
+        self.store.segment()
+    }
+
+    /// The node, whose store begins wide segments, the room of each growing with its Base. One that was loaded begins segments
+    /// of the least room.
     pub fn growing(self) -> Node<D>
-        ensures layout { (layout_of result ≡ record (layout_of self) { grows = true }) × (slots_of result ≡ slots_of self) }
+        ensures layout { (layout_of result ≡ record (layout_of self) { grows = Wide }) × (slots_of result ≡ slots_of self) }
         ensures rest { (id_of result ≡ id_of self) × (known_of result ≡ known_of self) × (released_of result ≡ released_of self) × (disk_of result ≡ disk_of self) × (index_of result ≡ index_of self) × (plain_of result ≡ plain_of self) × (is_blank result ≡ is_blank self) × (must_load result ≡ must_load self) }
         ensures holds { Holds D.seen D.may_leave self → Holds D.seen D.may_leave result }
         ensures opened { (bytes : List ℕ) → IsOpened D.seen D.may_leave self bytes → IsOpened D.seen D.may_leave result bytes }
     {
         let mut node = self;
-        node.store.grow(true);
+        node.store.grow(Growth::Wide);
         node
     }
 
@@ -166,6 +196,10 @@ impl<D: Disk> Node<D> {
 
         ensures replies { Holds D.seen D.may_leave self.old
             → IfOk result (λ replies. replies ≡ answer_message (id_of self.old) msg.now (handled (id_of self.old) (known_of self.old) (released_of self.old) (plain_of self.old) msg.now).answer) }
+
+        // On any disk, whatever bytes it gives, the answers are those of a step from the index but for the bytes of payloads, and
+        // the index is then as after that step.
+        ensures by_index { IfOk result (λ replies. DoesByIndex (id_of self.old) (known_of self.old) (released_of self.old) msg.now replies (layout_of self.old) (layout_of self.new)) }
 
         // Each answer is a message that a frame can carry.
         ensures messages { IfOk result (λ replies. AreMessages replies) }
@@ -253,6 +287,7 @@ impl<D: Disk> Node<D> {
         // The answers are those of a step from the plain state with all that was staged.
         ensures replies { (p : State) → HoldsOr D.seen D.may_leave self.old p
             → IfOk result (λ replies. replies ≡ answer_message (id_of self.old) msg.now (handled (id_of self.old) (known_of self.old) (released_of self.old) (plain_of self.old) msg.now).answer) }
+        ensures by_index { IfOk result (λ replies. DoesByIndex (id_of self.old) (known_of self.old) (released_of self.old) msg.now replies (layout_of self.old) (layout_of self.new)) }
         ensures messages { IfOk result (λ replies. AreMessages replies) }
         ensures kept { (p : State) → HoldsOr D.seen D.may_leave self.old p
             → OnOk result (plain_of self.new ≡ kept (handled (id_of self.old) (known_of self.old) (released_of self.old) (plain_of self.old) msg.now).op (plain_of self.old)) }

@@ -22,7 +22,7 @@ ghost use Rattle.ld_node.specs.Changes.{AreChanges, kept, laid_with, slots_kept,
 ghost use Rattle.ld_node.specs.Formats.{format_of, FormatsBy, LeftByFormat};
 ghost use Rattle.ld_node.specs.declared.tick.Ticked.TheVariants as answers;
 ghost use Rattle.ld_node.specs.Looks.{ticked, op_of, answer_of, IsOfLook, AskMessages};
-ghost use Rattle.ld_node.specs.Node.{id_of, known_of, released_of, disk_of, layout_of, slots_of, must_load, is_blank, index_of, plain_of, Holds};
+ghost use Rattle.ld_node.specs.Node.{id_of, known_of, released_of, disk_of, layout_of, slots_of, must_load, is_blank, is_new, index_of, plain_of, Holds};
 
 use crate::format::format_store;
 use crate::keep::keep;
@@ -54,6 +54,7 @@ impl<D: Disk> Node<D> {
         ensures applied { Holds D.seen D.may_leave self.old → IfOk result (λ drawn. plain_of self.new ≡ apply (plain_of self.old) (format_of drawn)) }
         ensures laid { IfOk result (λ drawn. (layout_of self.new ≡ kept_in (layout_of self.old) (format_of drawn)) × (slots_of self.new ≡ slots_with (layout_of self.old) (slots_of self.old) (op_length (format_of drawn)))) }
         ensures formatted { OnOk result (is_blank self.new ≡ false) }
+        ensures is_new { OnOk result (is_new self.new ≡ true) }
 
         // At `Ok` the format is durable: from then on each crash leaves what represents the plain state with it.
         ensures acknowledged { Holds D.seen D.may_leave self.old → OnOk result (Holds D.seen D.may_leave self.new) }
@@ -127,7 +128,9 @@ impl<D: Disk> Node<D> {
             return Err(NodeFault::NeedsLoad);
         }
         let drawn = reg.draw(alloc, self.id)?;
-        format_store(alloc, &mut self.store, drawn)
+        let formatted = format_store(alloc, &mut self.store, drawn);
+        self.is_new = formatted.is_ok();
+        formatted
     }
 
     /// Looks at the register for a log and does what the node has to do for it: the lowest epoch that isn't clean here,

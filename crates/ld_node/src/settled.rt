@@ -16,7 +16,8 @@ ghost use Rattle.ld_store.specs.Ahead.{HoldsOr};
 ghost use Rattle.ld_register.specs.declared.fault.RegisterFault.{RegisterFault};
 ghost use Rattle.ld_node.specs.Changes.{AreChanges};
 ghost use Rattle.ld_node.specs.Msgs.{handled, released_by};
-ghost use Rattle.ld_node.specs.Handling.{op_with, reply_with, reply_in, IsEither, Stays};
+ghost use Rattle.ld_node.specs.Handling.{op_with, reply_with, reply_in, IsEither, IsForSome, StandsForSome, Stays};
+ghost use Rattle.ld_node.specs.ByIndex.{IsByIndex};
 
 use crate::NodeFault;
 use crate::handled::{Handled, Reply, accept, number_stored};
@@ -53,6 +54,7 @@ pub(crate) fn prepare<D: Disk>(
     ensures replies { Holds D.seen D.may_leave store.old → IfOk result (λ done. done.1 ≡ answer_message id msg.now (handled id known.now released.now.entries (plain_of store.old) msg.now).answer) }
     ensures op_staged { (p : Plain) → HoldsOr D.seen D.may_leave store.old p → IfOk result (λ done. done.0 ≡ (handled id known.now released.now.entries (plain_of store.old) msg.now).op) }
     ensures replies_staged { (p : Plain) → HoldsOr D.seen D.may_leave store.old p → IfOk result (λ done. done.1 ≡ answer_message id msg.now (handled id known.now released.now.entries (plain_of store.old) msg.now).answer) }
+    ensures by_index { IfOk result (λ done. IsByIndex id known.now released.now.entries (index_of store.old) msg.now done.0 done.1) }
     ensures change { IfOk result (λ done. AreChanges done.0) }
     ensures released { IfOk result (λ done. (y : ℕ) → released_by id known.now msg.now ≡ Some y → done.0 ≡ None) }
     ensures messages { IfOk result (λ done. AreMessages done.1) }
@@ -97,8 +99,9 @@ pub(crate) fn settle<D: Disk>(
     ensures op { IfOk result (λ done. IfSome (D.seen (disk_of store.old)) (λ bytes. done.op ≡ op_with (byte_at bytes) msg.now handled.op handled.answer)) }
     ensures answer { IfOk result (λ done. IfSome (D.seen (disk_of store.old)) (λ bytes. done.answer ≡ reply_with (byte_at bytes) msg.now handled.answer)) }
 
-    // On any disk the op is one of two, and payloads are as long as the index says.
+    // On any disk the op is one of two, as it is for some bytes, and payloads are as long as the index says.
     ensures either { IfOk result (λ done. IsEither msg.now handled.op handled.answer done.op) }
+    ensures some { IfOk result (λ done. IsForSome msg.now handled.op handled.answer done.op) }
     ensures lengths { IfOk result (λ done. option_map (each_body (λ _. 0)) done.answer ≡ option_map (each_body (λ _. 0)) (reply_in msg.now handled.answer)) }
     ensures damaged { (place : ℕ) → IsErrOf result (NodeFault.Damaged place)
         → IfSome (D.seen (disk_of store.old)) (λ bytes. Stays (within (length bytes)) handled.answer → ⊥) }
@@ -154,6 +157,7 @@ fn is_there<D: Disk>(
 ) -> Result<bool, NodeFault>
     requires works { must_load store.old ≡ false }
     ensures there { IfOk result (λ there. IfSome (D.seen (disk_of store.old)) (λ bytes. there ≡ stands_there (byte_at bytes) (payload_of body.now) place)) }
+    ensures some { IfOk result (λ there. StandsForSome (payload_of body.now) place there) }
     ensures damaged { (at : ℕ) → IsErrOf result (NodeFault.Damaged at)
         → IfSome (D.seen (disk_of store.old)) (λ bytes. map (within (length bytes)) (numbers_from place.at place.len) ≢ numbers_from place.at place.len) }
     ensures same { Unchanged D.seen D.may_leave D.moment D.left_since (disk_of store.old) (disk_of store.new) }

@@ -1,5 +1,5 @@
 -- A node that is opened and serves a crowd.
-use Rattle.std.proofs.Common.{◌≡◌, ◌⊎◌, ℕ, List, Bool, Option, None, Some, Ok, Err, OnOk, inr}
+use Rattle.std.proofs.Common.{◌≡◌, ◌⊎◌, ℕ, List, [], Bool, Option, None, Some, Ok, Err, OnOk, inr}
 use Rattle.std.specs.Prelude.{IfSome, IfErr, OnErr, MatchResult}
 use Rattle.std.specs.declared.result.Result.{Result}
 use Rattle.ld_msg.specs.Register.{Register as Contents}
@@ -14,6 +14,7 @@ use Rattle.ld_serve.specs.Opening.{IsOpening}
 use Rattle.ld_serve.specs.Serving.{State, after, answers}
 use Rattle.ld_serve.specs.Stops.{RegisterCounts}
 use Rattle.ld_serve.specs.Whole.{at_first}
+use Rattle.ld_serve.specs.Told.{Memory}
 use Rattle.ld_serve.specs.Crowd.{IsCrowdStop, IsHeardAll, IsHeardUntil, IsServedAll, IsServedUntil}
 use Rattle.ld_serve.specs.Many.{CrowdServedOn, CrowdStoppedOn, HasServedCrowd, HasStoppedCrowd}
 
@@ -31,20 +32,20 @@ module _ (left : List ℕ → Type 0) (holds holds_now : Contents → Type 0) (i
   crowd_stopped_on (Some bytes) stop first last Was opened was course = λ p is. record { first = first; opened = opened p is; last = last; course = course (was p is) }
 
 module _ (seen : Option (List ℕ)) (left : List ℕ → Type 0) (holds holds_now : Contents → Type 0) (id : ℕ) (known : Known) (format : Bool) (did : List Event) (turns : ℕ) where
-  pub has_served_crowd : (r : Result Unit Stop) (first : Plain) (last : State) (Was : Type 0) → IfSome seen (IfStands (IsOpening holds holds_now id format first)) → IfSome seen (IfStands (λ _. Was))
-      → OnOk r (IsHeardAll did turns) → (Was → OnOk r (IsServedAll (after id known) (answers id known) did (at_first first) last turns))
+  pub has_served_crowd : (r : Result Unit Stop) (first : Plain) (last : State) (memory : Memory) (Was : Type 0) → memory.released ≡ [] → IfSome seen (IfStands (IsOpening holds holds_now id format first)) → IfSome seen (IfStands (λ _. Was))
+      → OnOk r (IsHeardAll id known memory did turns) → (Was → OnOk r (IsServedAll (after id known) (answers id known) did (at_first first) last turns))
       → (Was → OnOk r ((bytes : List ℕ) → left bytes → StandsFor last.plain bytes))
       → OnOk r (HasServedCrowd seen left holds holds_now id known format did turns)
-  has_served_crowd (Ok x) first last Was opened was heard course stands =
-      record { heard = heard; exact = crowd_served_on left holds holds_now id known format did turns seen first last Was opened was course stands }
-  has_served_crowd (Err e) first last Was opened was heard course stands = tt
+  has_served_crowd (Ok x) first last memory Was nothing opened was heard course stands =
+      record { first = memory; nothing = nothing; heard = heard; exact = crowd_served_on left holds holds_now id known format did turns seen first last Was opened was course stands }
+  has_served_crowd (Err e) first last memory Was nothing opened was heard course stands = tt
 
-  pub has_stopped_crowd : (r : Result Unit Stop) (first : Plain) (last : State) (Was : Type 0) (Other : Stop → Type 0) → IfSome seen (IfStands (IsOpening holds holds_now id format first)) → IfSome seen (IfStands (λ _. Was))
-      → OnErr r (IsHeardUntil did turns) → (Was → IfErr r (λ stop. IsServedUntil id known left stop did (at_first first) last turns))
+  pub has_stopped_crowd : (r : Result Unit Stop) (first : Plain) (last : State) (memory : Memory) (Was : Type 0) (Other : Stop → Type 0) → memory.released ≡ [] → IfSome seen (IfStands (IsOpening holds holds_now id format first)) → IfSome seen (IfStands (λ _. Was))
+      → OnErr r (IsHeardUntil id known memory did turns) → (Was → IfErr r (λ stop. IsServedUntil id known left stop did (at_first first) last turns))
       → IfErr r (λ stop. Other stop ⊎ HasStoppedCrowd seen left holds holds_now id known format did turns stop)
-  has_stopped_crowd (Ok x) first last Was Other opened was heard course = tt
-  has_stopped_crowd (Err stop) first last Was Other opened was heard course =
-      inr (record { heard = heard; exact = crowd_stopped_on left holds holds_now id known format did turns seen stop first last Was opened was course })
+  has_stopped_crowd (Ok x) first last memory Was Other nothing opened was heard course = tt
+  has_stopped_crowd (Err stop) first last memory Was Other nothing opened was heard course =
+      inr (record { first = memory; nothing = nothing; heard = heard; exact = crowd_stopped_on left holds holds_now id known format did turns seen stop first last Was opened was course })
 
 crowd_where : (Held Told : Type 0) → (Told → Held) → (stop : Stop) → IsCrowdStop Held stop → IsCrowdStop Told stop
 crowd_where Held Told told NoMemory u = tt

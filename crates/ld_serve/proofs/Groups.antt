@@ -22,7 +22,8 @@ use Rattle.ld_node.specs.Known.{Known}
 use Rattle.ld_node.specs.Changes.{IsPast}
 use Rattle.ld_serve.specs.Serving.{State, after, answers, done}
 use Rattle.ld_serve.specs.Talking.{Given, AreGiven, IsServing, IsLess, BeginsNone}
-use Rattle.ld_serve.specs.Crowd.{AreNextOf, IsBehindSome}
+use Rattle.ld_serve.specs.Told.{Memory, IsIndexStep, AreIndexSteps}
+use Rattle.ld_serve.specs.Crowd.{AreNextOf, IsBehindSome, givens, AreTaken, AreTakenOn}
 use Rattle.ld_serve.specs.declared.stop.Stop.{Stop}
 use Rattle.ld_serve.specs.declared.group.Answer.{Answer}
 use Rattle.ld_serve.specs.declared.group.Ending.{Ending}
@@ -30,6 +31,7 @@ use Rattle.ld_serve.specs.declared.group.Ending.TheVariants as ends
 use Rattle.ld_serve.specs.Group.{answers_to, waiting_in, told, before, Stages, IsKeptOut, IsUnanswered, IsUnmoved, IsTaken, IsTakenOnly, Tries, Gathers, IsLost, IsStop, Ends}
 use Rattle.ld_serve.proofs.CrowdStops.{less_held}
 use Rattle.ld_serve.proofs.Looks.{Held}
+use Rattle.ld_serve.proofs.Telling.{index_more}
 
 -- ---- what was held before frames were taken ----
 
@@ -177,6 +179,33 @@ module _ (f : State → Msg → State) (g : State → Msg → List Msg) where
   steps_front s [] back next x = refl
   steps_front s (t ∷ front) back next x = (x.0, steps_front (f s t.1.0) front back next x.1)
 
+-- ---- steps over the index ----
+
+pub givens_append : (a b : List (Taken Given)) → givens (a ++ b) ≡ givens a ++ givens b
+givens_append [] b = refl
+givens_append (t ∷ a) b = ap (λ (l : List Given). t.1 ∷ l) (givens_append a b)
+
+module _ (id : ℕ) (known : Known) where
+  index_join : (before : Memory) (xs ys : List Given) (mid now : Memory) → AreIndexSteps id known before xs mid → AreIndexSteps id known mid ys now → AreIndexSteps id known before (xs ++ ys) now
+  index_join before [] ys mid now x y = subst (λ (m : Memory). AreIndexSteps id known m ys now) x y
+  index_join before (t ∷ xs) ys mid now x y = (x.0, x.1, index_join x.0 xs ys mid now x.2 y)
+
+  index_front : (before : Memory) (xs ys : List Given) (now : Memory) → AreIndexSteps id known before (xs ++ ys) now → (mid : Memory) × AreIndexSteps id known before xs mid
+  index_front before [] ys now x = (before, refl)
+  index_front before (t ∷ xs) ys now x = (let f = index_front x.0 xs ys now x.2 in (f.0, (x.0, x.1, f.1)))
+
+  pub taken_join : (before : Memory) (ts more : List (Taken Given)) (mid now : Memory) → AreTaken id known before mid ts → AreTaken id known mid now more → AreTaken id known before now (ts ++ more)
+  taken_join before ts more mid now x y = subst (λ (l : List Given). AreIndexSteps id known before l now) (sym (givens_append ts more)) (index_join before (givens ts) (givens more) mid now x y)
+
+  pub taken_front : (before : Memory) (front back : List (Taken Given)) (now : Memory) → AreTaken id known before now (front ++ back) → AreTakenOn id known before front
+  taken_front before front back now x =
+      let f = index_front before (givens front) (givens back) now (subst (λ (l : List Given). AreIndexSteps id known before l now) (givens_append front back) x) in
+      record { last = f.0; steps = f.1 }
+
+  taken_more : (before : Memory) (ts : List (Taken Given)) (mid : Memory) (w : Taken Given) (now : Memory) → AreTaken id known before mid ts → IsIndexStep id known mid w.1 now → AreTaken id known before now (ts ++ w ∷ [])
+  taken_more before ts mid w now x step =
+      subst (λ (l : List Given). AreIndexSteps id known before l now) (sym (givens_append ts (w ∷ []))) (index_more id known before (givens ts) mid w.1 now x step)
+
 -- ---- frames that were not answered ----
 
 none_front : (a b : List ℕ) → [] ≡ a ++ b → a ≡ []
@@ -203,14 +232,14 @@ are_next group later did ts x p = next_of group later did ts p (before group lat
 
 -- ---- one frame ----
 
-module _ (id : ℕ) (known : Known) (waiting waiting_now : List (ℕ × List ℕ)) (now first later : Held) (s next : State) (layout : Layout) (Stood Stands : Plain → Type 0) (same : (q : ℕ) → first q ≡ now q) where
-  unmoved_as : IsUnmoved id known waiting waiting_now now later s next layout Stood Stands → IsUnmoved id known waiting waiting_now first later s next layout Stood Stands
-  unmoved_as u = record { waits = u.waits; step = u.step; stands = u.stands }
+module _ (id : ℕ) (known : Known) (waiting waiting_now : List (ℕ × List ℕ)) (now first later : Held) (s next : State) (memory memory_now : Memory) (layout : Layout) (Stood Stands : Plain → Type 0) (same : (q : ℕ) → first q ≡ now q) where
+  unmoved_as : IsUnmoved id known waiting waiting_now now later s next memory memory_now layout Stood Stands → IsUnmoved id known waiting waiting_now first later s next memory memory_now layout Stood Stands
+  unmoved_as u = record { waits = u.waits; stays = u.stays; step = u.step; stands = u.stands }
 
-  taken_as : (held : Held) → IsTaken id known waiting waiting_now now later s next layout Stood Stands held → IsTaken id known waiting waiting_now first later s next layout Stood Stands held
+  taken_as : (held : Held) → IsTaken id known waiting waiting_now now later s next memory memory_now layout Stood Stands held → IsTaken id known waiting waiting_now first later s next memory memory_now layout Stood Stands held
   taken_as held t = record { peer = t.peer; message = t.message; rest = t.rest; others = t.others; is = t.is; now_is = λ q. same q ∙ t.now_is q; stages = t.stages; held_is = t.held_is }
 
-  tries_as : (e : Ending) → Tries id known waiting waiting_now now later s next layout Stood Stands e → Tries id known waiting waiting_now first later s next layout Stood Stands e
+  tries_as : (e : Ending) → Tries id known waiting waiting_now now later s next memory memory_now layout Stood Stands e → Tries id known waiting waiting_now first later s next memory memory_now layout Stood Stands e
   tries_as ends.More (inl t) = inl (taken_as later t)
   tries_as ends.More (inr u) = inr (unmoved_as u.0, (λ q. same q ∙ u.1 q))
   tries_as (ends.Off peer) n = record { bytes = n.bytes; now_is = λ q. same q ∙ n.now_is q; gone = n.gone; none = n.none; unmoved = unmoved_as n.unmoved }
@@ -218,8 +247,8 @@ module _ (id : ℕ) (known : Known) (waiting waiting_now : List (ℕ × List ℕ
   tries_as (ends.Stops stop) (inr (short, inl t)) = inr (short, inl (t.0, taken_as t.0 t.1))
   tries_as (ends.Stops stop) (inr (short, inr u)) = inr (short, inr (unmoved_as u))
 
-  pub tries_from : (r : Result Ending Stop) → IfOk r (λ e. Tries id known waiting waiting_now now later s next layout Stood Stands e)
-      → IfOk r (λ e. Tries id known waiting waiting_now first later s next layout Stood Stands e)
+  pub tries_from : (r : Result Ending Stop) → IfOk r (λ e. Tries id known waiting waiting_now now later s next memory memory_now layout Stood Stands e)
+      → IfOk r (λ e. Tries id known waiting waiting_now first later s next memory memory_now layout Stood Stands e)
   tries_from (Ok e) t = tries_as e t
   tries_from (Err stop) t = tt
 
@@ -258,11 +287,14 @@ module _ (id : ℕ) (known : Known) (Is : Type 0) where
   either_front s mid group Stood bytes is x (inr e) = record { front = group; back = []; group_is = sym (append-nil group); is = subst (λ (t : State). StandsFor t.plain bytes) is e }
 
   -- what is held is known by another name
-  pub gathers_as : (waiting : List (ℕ × List ℕ)) (now here later : Held) (s next : State) (Stands : Plain → Type 0) (us : List (Taken Msg)) → ((q : ℕ) → here q ≡ later q)
-      → Gathers id known Is waiting now here s next Stands us → Gathers id known Is waiting now later s next Stands us
-  gathers_as waiting now here later s next Stands us same x = record {
+  pub gathers_as : (waiting : List (ℕ × List ℕ)) (now here later : Held) (s next : State) (memory memory_now : Memory) (Stands : Plain → Type 0) (us : List (Taken Msg)) → ((q : ℕ) → here q ≡ later q)
+      → Gathers id known Is waiting now here s next memory memory_now Stands us → Gathers id known Is waiting now later s next memory memory_now Stands us
+  gathers_as waiting now here later s next memory memory_now Stands us same x = record {
     answered = x.answered;
     are = x.are;
+    last = x.last;
+    by_index = x.by_index;
+    here = x.here;
     waits = x.waits;
     held = λ q. x.held q ∙ before_same (plain x.answered ++ us) here later same q;
     steps = x.steps;
@@ -270,16 +302,19 @@ module _ (id : ℕ) (known : Known) (Is : Type 0) where
     stands = x.stands;
   }
 
-  module _ (waiting : List (ℕ × List ℕ)) (now : Held) (s mid : State) (Stood : Plain → Type 0) where
+  module _ (waiting : List (ℕ × List ℕ)) (now : Held) (s mid : State) (memory memory_mid memory_now : Memory) (Stood : Plain → Type 0) where
     abbrev Before : Held → Type 0
-    Before later = Gathers id known Is waiting now later s mid Stood []
+    Before later = Gathers id known Is waiting now later s mid memory memory_mid Stood []
 
     -- nothing of it was staged
-    pub gathers_still : (later : Held) (next : State) (Stands : Plain → Type 0) → Before later → ((p : Plain) → Stood p → next ≡ mid)
-        → ((p : Plain) → Stood p → (q : Plain) × ((q ≡ p) ⊎ (q ≡ mid.plain)) × Stands q) → Gathers id known Is waiting now later s next Stands []
-    gathers_still later next Stands x same stands = record {
+    pub gathers_still : (later : Held) (next : State) (Stands : Plain → Type 0) → Before later → memory_now ≡ memory_mid → ((p : Plain) → Stood p → next ≡ mid)
+        → ((p : Plain) → Stood p → (q : Plain) × ((q ≡ p) ⊎ (q ≡ mid.plain)) × Stands q) → Gathers id known Is waiting now later s next memory memory_now Stands []
+    gathers_still later next Stands x stays same stands = record {
       answered = x.answered;
       are = x.are;
+      last = x.last;
+      by_index = x.by_index;
+      here = stays ∙ x.here;
       waits = x.waits;
       held = x.held;
       steps = x.steps;
@@ -301,12 +336,15 @@ module _ (id : ℕ) (known : Known) (Is : Type 0) where
     -- it is staged, and its answers don't wait
     pub gathers_unanswered : (p : ℕ) (m : Msg) (rest : List ℕ) (here : Held) (next : State) (Stands : Plain → Type 0) → Before (put p (Some (frame_of m ++ rest)) here)
         → ((q : Plain) → Stood q → next ≡ after id known mid m) → ((p : Plain) → Stood p → (q : Plain) × ((q ≡ p) ⊎ (q ≡ mid.plain)) × Stands q)
-        → Gathers id known Is waiting now (put p (Some rest) here) s next Stands ((p, m) ∷ [])
+        → Gathers id known Is waiting now (put p (Some rest) here) s next memory memory_now Stands ((p, m) ∷ [])
     gathers_unanswered p m rest here next Stands x step stands =
         let e : (plain x.answered ++ []) ++ (p, m) ∷ [] ≡ plain x.answered ++ (p, m) ∷ [] = ap (λ (l : List (Taken Msg)). l ++ (p, m) ∷ []) (append-nil (plain x.answered)) in
         record {
           answered = x.answered;
           are = x.are;
+          last = x.last;
+          by_index = x.by_index;
+          here = tt;
           waits = x.waits;
           held = λ q. held_more p m rest here (put p (Some rest) here) x (λ _. refl) q ∙ ap (λ (l : List (Taken Msg)). before l (put p (Some rest) here) q) e;
           steps = x.steps;
@@ -316,8 +354,8 @@ module _ (id : ℕ) (known : Known) (Is : Type 0) where
 
     -- it is staged, and its answers wait
     pub gathers_more : (waiting_now : List (ℕ × List ℕ)) (p : ℕ) (m : Msg) (rest : List ℕ) (here later : Held) (next : State) (Stands : Plain → Type 0) → Before (put p (Some (frame_of m ++ rest)) here)
-        → IsMessage m → Stages (after id known) (answers id known) waiting waiting_now p m mid next Stood Stands → ((q : ℕ) → later q ≡ put p (Some rest) here q)
-        → Gathers id known Is waiting_now now later s next Stands []
+        → IsMessage m → Stages (after id known) (answers id known) waiting waiting_now p m mid next (λ given. IsIndexStep id known memory_mid (m, given) memory_now) Stood Stands → ((q : ℕ) → later q ≡ put p (Some rest) here q)
+        → Gathers id known Is waiting_now now later s next memory memory_now Stands []
     gathers_more waiting_now p m rest here later next Stands x message st kept =
         let w : Taken Given = (p, (m, st.given)) in
         let e : (plain x.answered ++ []) ++ (p, m) ∷ [] ≡ plain (x.answered ++ w ∷ []) ++ [] =
@@ -329,6 +367,9 @@ module _ (id : ℕ) (known : Known) (Is : Type 0) where
         record {
           answered = x.answered ++ w ∷ [];
           are = are_more x.answered (w ∷ []) x.are ((message, st.are), tt);
+          last = memory_now;
+          by_index = taken_more id known memory x.answered memory_mid w memory_now (subst (λ (m : Memory). AreTaken id known memory m x.answered) (sym x.here) x.by_index) st.by_index;
+          here = refl;
           waits = st.waits ∙ ap (λ (l : List (ℕ × List ℕ)). l ++ (p, frames_of st.given) ∷ []) x.waits ∙ sym (answers_append x.answered (w ∷ []));
           held = λ q. held_more p m rest here later x kept q ∙ ap (λ (l : List (Taken Msg)). before l later q) e;
           steps = λ is.
@@ -341,9 +382,9 @@ module _ (id : ℕ) (known : Known) (Is : Type 0) where
         }
 
   -- the disk failed, or all that was staged was to be made durable
-  pub lost_of : (waiting : List (ℕ × List ℕ)) (now later : Held) (s mid : State) (Stood : Plain → Type 0) (us : List (Taken Msg)) (left : List ℕ → Type 0) → Gathers id known Is waiting now later s mid Stood us
+  pub lost_of : (waiting : List (ℕ × List ℕ)) (now later : Held) (s mid : State) (memory memory_mid : Memory) (Stood : Plain → Type 0) (us : List (Taken Msg)) (left : List ℕ → Type 0) → Gathers id known Is waiting now later s mid memory memory_mid Stood us
       → ((p : Plain) → Stood p → (bytes : List ℕ) → left bytes → StandsForEither p mid.plain bytes) → IsLost id known Is now s left
-  lost_of waiting now later s mid Stood us left x leaves = record {
+  lost_of waiting now later s mid memory memory_mid Stood us left x leaves = record {
     group = plain x.answered ++ us;
     later = later;
     held = x.held;
@@ -352,32 +393,32 @@ module _ (id : ℕ) (known : Known) (Is : Type 0) where
 
   -- ---- by how it ended ----
 
-  module _ (waiting waiting_now : List (ℕ × List ℕ)) (first now later : Held) (s mid next : State) (layout : Layout) (Stood Stands : Plain → Type 0) (x : Gathers id known Is waiting first now s mid Stood []) where
+  module _ (waiting waiting_now : List (ℕ × List ℕ)) (first now later : Held) (s mid next : State) (memory memory_mid memory_now : Memory) (layout : Layout) (Stood Stands : Plain → Type 0) (x : Gathers id known Is waiting first now s mid memory memory_mid Stood []) where
     abbrev Now : Held → List (Taken Msg) → Type 0
-    Now held us = Gathers id known Is waiting_now first held s next Stands us
+    Now held us = Gathers id known Is waiting_now first held s next memory memory_now Stands us
 
-    waits_as : (held : Held) (us : List (Taken Msg)) → waiting_now ≡ waiting → Gathers id known Is waiting first held s next Stands us → Now held us
-    waits_as held us e y = subst (λ (w : List (ℕ × List ℕ)). Gathers id known Is w first held s next Stands us) (sym e) y
+    waits_as : (held : Held) (us : List (Taken Msg)) → waiting_now ≡ waiting → Gathers id known Is waiting first held s next memory memory_now Stands us → Now held us
+    waits_as held us e y = subst (λ (w : List (ℕ × List ℕ)). Gathers id known Is w first held s next memory memory_now Stands us) (sym e) y
 
-    unmoved : IsUnmoved id known waiting waiting_now now later mid next layout Stood Stands → Now now []
-    unmoved u = waits_as now [] u.waits (gathers_still waiting first s mid Stood now next Stands x u.step (λ p is. (p, inl refl, u.stands p is)))
+    unmoved : IsUnmoved id known waiting waiting_now now later mid next memory_mid memory_now layout Stood Stands → Now now []
+    unmoved u = waits_as now [] u.waits (gathers_still waiting first s mid memory memory_mid memory_now Stood now next Stands x u.stays u.step (λ p is. (p, inl refl, u.stands p is)))
 
-    taken : (held : Held) → IsTaken id known waiting waiting_now now later mid next layout Stood Stands held → Now held []
-    taken held t = gathers_more waiting first s mid Stood waiting_now t.peer t.message t.rest t.others held next Stands
-        (gathers_as waiting first now (put t.peer (Some (frame_of t.message ++ t.rest)) t.others) s mid Stood [] t.now_is x) t.is t.stages t.held_is
+    taken : (held : Held) → IsTaken id known waiting waiting_now now later mid next memory_mid memory_now layout Stood Stands held → Now held []
+    taken held t = gathers_more waiting first s mid memory memory_mid memory_now Stood waiting_now t.peer t.message t.rest t.others held next Stands
+        (gathers_as waiting first now (put t.peer (Some (frame_of t.message ++ t.rest)) t.others) s mid memory memory_mid Stood [] t.now_is x) t.is t.stages t.held_is
 
     held_of : Is → (p : Plain) × Stood p
     held_of is = (_, (x.stands is).is)
 
-    only : (stop : Stop) → IsTakenOnly id known waiting waiting_now now later mid next layout Stood Stands stop → IsStop id known Is waiting_now first later s next layout Stands stop
+    only : (stop : Stop) → IsTakenOnly id known waiting waiting_now now later mid next memory_mid memory_now layout Stood Stands stop → IsStop id known Is waiting_now first later s next memory memory_now layout Stands stop
     only stop t =
         let here : Held = put t.peer (Some (frame_of t.message ++ t.rest)) t.others in
-        let y = gathers_as waiting first now here s mid Stood [] t.now_is x in
+        let y = gathers_as waiting first now here s mid memory memory_mid Stood [] t.now_is x in
         ⊎_elim
-        (λ (k : IsKeptOut id known layout t.message mid next Stood Stands stop). record {
+        (λ (k : IsKeptOut id known layout t.message mid next memory_mid memory_now Stood Stands stop). record {
           later = here;
           unanswered = [];
-          gathers = waits_as here [] t.waits (gathers_still waiting first s mid Stood here next Stands y k.step k.stands);
+          gathers = waits_as here [] t.waits (gathers_still waiting first s mid memory memory_mid memory_now Stood here next Stands y k.stays k.step k.stands);
           short = inr (
             refl,
             record {
@@ -395,17 +436,17 @@ module _ (id : ℕ) (known : Known) (Is : Type 0) where
           later = put t.peer (Some t.rest) t.others;
           unanswered = (t.peer, t.message) ∷ [];
           gathers = waits_as (put t.peer (Some t.rest) t.others) ((t.peer, t.message) ∷ []) t.waits
-              (gathers_unanswered waiting first s mid Stood t.peer t.message t.rest t.others next Stands y k.step k.stands);
+              (gathers_unanswered waiting first s mid memory memory_mid memory_now Stood t.peer t.message t.rest t.others next Stands y k.step k.stands);
           short = inl k.cause;
         })
         t.why
 
-    pub tried : (e : Ending) → Tries id known waiting waiting_now now later mid next layout Stood Stands e → Ends id known Is waiting_now first later s next layout Stands e
+    pub tried : (e : Ending) → Tries id known waiting waiting_now now later mid next memory_mid memory_now layout Stood Stands e → Ends id known Is waiting_now first later s next memory memory_now layout Stands e
     tried ends.More (inl t) = taken later t
-    tried ends.More (inr u) = gathers_as waiting_now first now later s next Stands [] u.1 (unmoved u.0)
+    tried ends.More (inr u) = gathers_as waiting_now first now later s next memory memory_now Stands [] u.1 (unmoved u.0)
     tried (ends.Off peer) n = record {
       bytes = n.bytes;
-      gathers = gathers_as waiting_now first now (put peer (Some n.bytes) later) s next Stands [] n.now_is (unmoved n.unmoved);
+      gathers = gathers_as waiting_now first now (put peer (Some n.bytes) later) s next memory memory_now Stands [] n.now_is (unmoved n.unmoved);
       gone = n.gone;
       none = n.none;
     }
@@ -414,18 +455,21 @@ module _ (id : ℕ) (known : Known) (Is : Type 0) where
     tried (ends.Stops stop) (inr (short, inr u)) = record { later = now; unanswered = []; gathers = unmoved u; short = inl short }
 
   -- of a node that has the number that it had, and knows what it knew
-  pub tried_as : (i : ℕ) (k : Known) → i ≡ id → k ≡ known → (waiting waiting_now : List (ℕ × List ℕ)) (first now later : Held) (s mid next : State) (layout : Layout) (Stood Stands : Plain → Type 0)
-      → Gathers id known Is waiting first now s mid Stood [] → (e : Ending) → Tries i k waiting waiting_now now later mid next layout Stood Stands e → Ends id known Is waiting_now first later s next layout Stands e
-  tried_as i k same knows waiting waiting_now first now later s mid next layout Stood Stands x e t =
-      tried waiting waiting_now first now later s mid next layout Stood Stands x e
-      (subst (λ (z : Known). Tries id z waiting waiting_now now later mid next layout Stood Stands e) knows
-      (subst (λ (z : ℕ). Tries z k waiting waiting_now now later mid next layout Stood Stands e) same t))
+  pub tried_as : (i : ℕ) (k : Known) → i ≡ id → k ≡ known → (waiting waiting_now : List (ℕ × List ℕ)) (first now later : Held) (s mid next : State) (memory memory_mid memory_now : Memory) (layout : Layout) (Stood Stands : Plain → Type 0)
+      → Gathers id known Is waiting first now s mid memory memory_mid Stood [] → (e : Ending) → Tries i k waiting waiting_now now later mid next memory_mid memory_now layout Stood Stands e → Ends id known Is waiting_now first later s next memory memory_now layout Stands e
+  tried_as i k same knows waiting waiting_now first now later s mid next memory memory_mid memory_now layout Stood Stands x e t =
+      tried waiting waiting_now first now later s mid next memory memory_mid memory_now layout Stood Stands x e
+      (subst (λ (z : Known). Tries id z waiting waiting_now now later mid next memory_mid memory_now layout Stood Stands e) knows
+      (subst (λ (z : ℕ). Tries z k waiting waiting_now now later mid next memory_mid memory_now layout Stood Stands e) same t))
 
   -- at first
-  pub none_gathered : (now : Held) (s : State) (Stood : Plain → Type 0) → (Is → Stood s.plain) → Gathers id known Is [] now now s s Stood []
-  none_gathered now s Stood first = record {
+  pub none_gathered : (now : Held) (s : State) (memory : Memory) (Stood : Plain → Type 0) → (Is → Stood s.plain) → Gathers id known Is [] now now s s memory memory Stood []
+  none_gathered now s memory Stood first = record {
     answered = [];
     are = tt;
+    last = memory;
+    by_index = refl;
+    here = refl;
     waits = refl;
     held = λ q. refl;
     steps = λ is. refl;

@@ -33,6 +33,7 @@ use Rattle.ld_node.specs.Changes.{IsPast}
 use Rattle.ld_serve.specs.declared.stop.Stop.{Stop}
 use Rattle.ld_serve.specs.declared.stop.Stop.TheVariants as stops
 use Rattle.ld_serve.specs.Opening.{IsBlank, IsOpening, ShowsSame, Draws, HoldsDraw, LeftByFormat, Formats, StoreIsFull, IsOpeningStop, stop_of_load, stop_of_format}
+use Rattle.ld_layout.specs.declared.segment.Growth.TheVariants.{Still}
 
 -- ---- disks on which no record stands ----
 
@@ -57,7 +58,7 @@ blank_shows (Some bytes) seen_now either blank = ⊎_elim (λ same. same) (λ wa
 
 -- they lie as a new journal
 new_laid : (y : Layout) (z : Slots) (bytes : List ℕ) (a : Option Segment) (vs : List Record) (opening : Version) → (y.ops == 0) ≡ true → ArePlaced versions.Blank vs opening → IsIndexed opening (written y) y z a vs bytes
-    → y.ops ≡ op_count vs → y.end ≡ place_behind vs → y.later ≡ a → y.grows ≡ false → y ≡ new_layout
+    → y.ops ≡ op_count vs → y.end ≡ place_behind vs → y.later ≡ a → y.grows ≡ Still → y ≡ new_layout
 new_laid y z bytes None [] opening blank placed is ops end later still = λ i. record { ops = ops i; end = end i; later = later i; index = is.1 i; grows = still i }
 new_laid y z bytes None (v ∷ vs) opening blank placed is ops end later still =
     let e : true ≡ false = sym (ap (λ b. records.is_blank (cond b versions.Blank versions.Second)) blank) ∙ ap records.is_blank is.0 ∙ blank_is (v ∷ vs) opening placed.version_is in absurd (cc e)
@@ -144,12 +145,12 @@ module _ {D : Type 0} {g : Ghosts D} (seen : D → Option (List ℕ)) (may_leave
   blank_holds : (bytes : List ℕ) (node : Node D g) → is_blank node ≡ true → IsOpened seen may_leave node bytes → Holds seen may_leave node
   blank_holds bytes node blank opened = opened.holds unformatted (blank_stands bytes (opened.blank blank))
 
-  blank_layout : (node : Node D g) → is_blank node ≡ true → (layout_of node).grows ≡ false → Holds seen may_leave node → layout_of node ≡ new_layout
+  blank_layout : (node : Node D g) → is_blank node ≡ true → (layout_of node).grows ≡ Still → Holds seen may_leave node → layout_of node ≡ new_layout
   blank_layout node blank still held =
       let y = layout_of node in
       new_laid y (slots_of node) held.bytes y.later held.lies.records held.lies.first (sym held.blank ∙ blank) held.lies.placed held.lies.index_is held.lies.ops_is held.lies.end_is refl still
 
-  pub blank_full : (o : Option (List ℕ)) (old : Node D g) → is_blank old ≡ true → (layout_of old).grows ≡ false → IfSome o (IsOpened seen may_leave old)
+  pub blank_full : (o : Option (List ℕ)) (old : Node D g) → is_blank old ≡ true → (layout_of old).grows ≡ Still → IfSome o (IsOpened seen may_leave old)
       → (Holds seen may_leave old → (c : Contents) → holds c → (given : Drawn) × (answered given ≡ drawn c id) × IsPast (layout_of old) (Some (format_of given)))
       → IfSome o (λ bytes. (c : Contents) → holds c → (given : Drawn) × (answered given ≡ drawn c id) × IsPast new_layout (Some (format_of given)))
   blank_full None old blank still opened full = tt

@@ -20,14 +20,15 @@ use Rattle.ld_serve.specs.declared.stop.Stop.{Stop}
 use Rattle.ld_serve.specs.declared.stop.Stop.TheVariants.{NoMemory, Disk}
 use Rattle.ld_serve.specs.Serving.{State, after, answers, done, PastLimit}
 use Rattle.ld_serve.specs.Talking.{Given, AreGiven, IsServing, AreServed, IsLess, BeginsNone}
-use Rattle.ld_serve.specs.Crowd.{Advances, Halts, At, Among, IsNext}
+use Rattle.ld_serve.specs.Told.{Memory}
+use Rattle.ld_serve.specs.Crowd.{AreTaken, Advances, Halts, At, Among, IsNext}
 use Rattle.ld_serve.specs.declared.group.Ending.{Ending}
 use Rattle.ld_serve.specs.declared.group.Ending.TheVariants as ends
 use Rattle.ld_serve.specs.Stops.{IsNodeStop}
 use Rattle.ld_serve.specs.Group.{answers_to, told, before, Gathers, IsLost, IsRefusal, IsOff, IsStop, IsUnsettled, Ends}
 use Rattle.ld_serve.proofs.Looks.{Held, served_so, put_off}
 use Rattle.ld_serve.proofs.CrowdStops.{less_held}
-use Rattle.ld_serve.proofs.Groups.{plain_append, answers_length, are_front, front_said, lost_of, told_longer, turns_told, turns_more, steps_join, steps_front, are_next}
+use Rattle.ld_serve.proofs.Groups.{plain_append, answers_length, are_front, front_said, lost_of, told_longer, turns_told, turns_more, steps_join, steps_front, taken_front, are_next}
 
 take_all : {X : Type 0} (xs : List X) → take (length xs) xs ≡ xs
 take_all [] = refl
@@ -52,29 +53,34 @@ module _ (id : ℕ) (known : Known) (Is : Type 0) where
   abbrev Step : State → Msg → State
   Step = after id known
 
-  module _ (waiting : List (ℕ × List ℕ)) (did : List Event) (now : Held) (s mid : State) (Stood : Plain → Type 0) where
+  module _ (waiting : List (ℕ × List ℕ)) (did : List Event) (now : Held) (s mid : State) (memory memory_mid : Memory) (Stood : Plain → Type 0) where
     -- ---- it was settled ----
 
-    all_said : (here : Held) (us : List (Taken Msg)) (x : Gathers id known Is waiting now here s mid Stood us) (new : List Event) → new ≡ told waiting did
+    all_said : (here : Held) (us : List (Taken Msg)) (x : Gathers id known Is waiting now here s mid memory memory_mid Stood us) (new : List Event) → new ≡ told waiting did
         → (ts : List (Taken Given)) → IsServing did ts now → IsServing new (ts ++ x.answered) (before us here)
     all_said here us x new is ts y =
         subst (λ (d : List Event). IsServing d (ts ++ x.answered) (before us here)) (sym (is ∙ ap (λ (l : List (ℕ × List ℕ)). told l did) x.waits))
         (front_said x.answered us here did ts (alike frame_of frames_of IsLess BeginsNone did ts now (before (plain x.answered ++ us) here) (λ q. sym (x.held q)) y))
 
-    all_turns : (here : Held) (us : List (Taken Msg)) (x : Gathers id known Is waiting now here s mid Stood us) (new : List Event) → new ≡ told waiting did
+    all_turns : (here : Held) (us : List (Taken Msg)) (x : Gathers id known Is waiting now here s mid memory memory_mid Stood us) (new : List Event) → new ≡ told waiting did
         → (ts : List (Taken Given)) → turns_of new (ts ++ x.answered) ≡ turns_of did ts + length waiting
     all_turns here us x new is ts =
         ap (λ (d : List Event). turns_of d (ts ++ x.answered)) is ∙ turns_told waiting did (ts ++ x.answered) ∙ turns_more did ts x.answered
         ∙ ap (λ (n : ℕ). turns_of did ts + n) (sym (ap length x.waits ∙ answers_length x.answered))
 
-    at_end : (here : Held) (x : Gathers id known Is waiting now here s mid Stood []) → Is → mid ≡ after_taken Step s (plain x.answered)
+    at_end : (here : Held) (x : Gathers id known Is waiting now here s mid memory memory_mid Stood []) → Is → mid ≡ after_taken Step s (plain x.answered)
     at_end here x is = x.state is ∙ ap (λ (l : List (Taken Msg)). after_taken Step s l) (append-nil (plain x.answered))
 
-    pub settled_on : (here : Held) (new : List Event) (fin : State) → Gathers id known Is waiting now here s mid Stood [] → (Is → fin ≡ mid) → new ≡ told waiting did
-        → Advances Step (answers id known) Is did new now here s fin (length waiting)
-    settled_on here new fin x same is = record {
+    -- what the node has in memory stays
+    ends_so : (here : Held) (fin : Memory) → (x : Gathers id known Is waiting now here s mid memory memory_mid Stood []) → fin ≡ memory_mid → AreTaken id known memory fin x.answered
+    ends_so here fin x stays = subst (λ (m : Memory). AreTaken id known memory m x.answered) (sym (stays ∙ x.here)) x.by_index
+
+    pub settled_on : (here : Held) (new : List Event) (fin : State) (memory_fin : Memory) → Gathers id known Is waiting now here s mid memory memory_mid Stood [] → memory_fin ≡ memory_mid → (Is → fin ≡ mid) → new ≡ told waiting did
+        → Advances Step (answers id known) Is did new now here s fin (AreTaken id known memory memory_fin) (length waiting)
+    settled_on here new fin memory_fin x stays same is = record {
       more = x.answered;
       are = x.are;
+      by_index = ends_so here memory_fin x stays;
       serving = λ ts y. all_said here [] x new is ts y;
       turns_are = λ ts. all_turns here [] x new is ts;
       steps = λ held first ts y. steps_join Step (answers id known) first ts x.answered s fin y
@@ -82,13 +88,14 @@ module _ (id : ℕ) (known : Known) (Is : Type 0) where
     }
 
     -- and then a peer was dismissed, whose bytes begin no frame
-    pub settled_off : (here : Held) (p : ℕ) (mid_did new : List Event) (fin : State) (layout : Layout) → IsOff id known Is waiting now here s mid layout Stood p → (Is → fin ≡ mid) → mid_did ≡ told waiting did
-        → new ≡ dismissed p ∷ mid_did → Advances Step (answers id known) Is did new now here s fin (length waiting + 1)
-    settled_off here p mid_did new fin layout off same is after_it =
+    pub settled_off : (here : Held) (p : ℕ) (mid_did new : List Event) (fin : State) (memory_fin : Memory) (layout : Layout) → IsOff id known Is waiting now here s mid memory memory_mid layout Stood p → memory_fin ≡ memory_mid → (Is → fin ≡ mid) → mid_did ≡ told waiting did
+        → new ≡ dismissed p ∷ mid_did → Advances Step (answers id known) Is did new now here s fin (AreTaken id known memory memory_fin) (length waiting + 1)
+    settled_off here p mid_did new fin memory_fin layout off stays same is after_it =
         let x = off.gathers in
         record {
           more = x.answered;
           are = x.are;
+          by_index = ends_so (put p (Some off.bytes) here) memory_fin x stays;
           serving = λ ts y. subst (λ (d : List Event). IsServing d (ts ++ x.answered) here) (sym after_it)
               (put_off mid_did (ts ++ x.answered) p off.bytes here off.none off.gone (all_said (put p (Some off.bytes) here) [] x mid_did is ts y));
           turns_are = λ ts. ap (λ (d : List Event). turns_of d (ts ++ x.answered)) after_it
@@ -101,10 +108,11 @@ module _ (id : ℕ) (known : Known) (Is : Type 0) where
 
     module _ (left : List ℕ → Type 0) (most : ℕ) (stop : Stop) where
       -- none of it was answered
-      pub lost : (new : List Event) (next : State) → IsLost id known Is now s left → (stop ≡ Disk) ⊎ (stop ≡ NoMemory) → new ≡ did → Halts id known Is left did new now s next most stop
+      pub lost : (new : List Event) (next : State) → IsLost id known Is now s left → (stop ≡ Disk) ⊎ (stop ≡ NoMemory) → new ≡ did → Halts id known Is left did new now s next memory most stop
       lost new next x cause same = record {
         more = [];
         are = tt;
+        by_index = record { last = memory; steps = refl };
         served = λ ts y. subst (λ (l : List (Taken Given)). AreServed new l) (sym (append-nil ts)) (subst (λ (d : List Event). AreServed d ts) (sym same) (served_so did ts now y));
         most = λ ts. subst (λ (l : List (Taken Given)). turns_of new l ≤ turns_of did ts + most) (sym (append-nil ts)) (subst (λ (d : List Event). turns_of d ts ≤ turns_of did ts + most) (sym same) (omega arith));
         break = Among x.group;
@@ -115,8 +123,8 @@ module _ (id : ℕ) (known : Known) (Is : Type 0) where
       }
 
       -- it is durable, and its first frames were answered
-      pub unsaid : (here : Held) (us : List (Taken Msg)) (new : List Event) (fin : State) (count : ℕ) → Gathers id known Is waiting now here s mid Stood us → length waiting ≤ most → stop ≡ NoMemory
-          → new ≡ told (take count waiting) did → (Is → fin ≡ mid) → (Is → (bytes : List ℕ) → left bytes → StandsFor mid.plain bytes) → Halts id known Is left did new now s fin most stop
+      pub unsaid : (here : Held) (us : List (Taken Msg)) (new : List Event) (fin : State) (count : ℕ) → Gathers id known Is waiting now here s mid memory memory_mid Stood us → length waiting ≤ most → stop ≡ NoMemory
+          → new ≡ told (take count waiting) did → (Is → fin ≡ mid) → (Is → (bytes : List ℕ) → left bytes → StandsFor mid.plain bytes) → Halts id known Is left did new now s fin memory most stop
       unsaid here us new fin count x few cause is same leaves =
           let front : List (Taken Given) = take count x.answered in
           let back : List (Taken Given) = drop count x.answered in
@@ -136,6 +144,7 @@ module _ (id : ℕ) (known : Known) (Is : Type 0) where
           record {
             more = front;
             are = are_front front back (subst (λ (l : List (Taken Given)). AreGiven l) parts x.are);
+            by_index = taken_front id known memory front back x.last (subst (λ (l : List (Taken Given)). AreTaken id known memory x.last l) parts x.by_index);
             served = λ ts y. served_so new (ts ++ front) (before group here) (serving ts y);
             most = λ ts.
                 let t : turns_of new (ts ++ front) ≡ turns_of did ts + length front = ap (λ (d : List Event). turns_of d (ts ++ front)) said_is ∙ turns_told (answers_to front) did (ts ++ front) ∙ turns_more did ts front in
@@ -157,12 +166,13 @@ module _ (id : ℕ) (known : Known) (Is : Type 0) where
           }
 
       -- it is durable and answered, and the node refused a frame behind it
-      pub refused : (here : Held) (layout : Layout) (new : List Event) (fin : State) → Gathers id known Is waiting now here s mid Stood [] → (r : IsRefusal id known Is layout here mid stop) → length waiting ≤ most
+      pub refused : (here : Held) (layout : Layout) (new : List Event) (fin : State) → Gathers id known Is waiting now here s mid memory memory_mid Stood [] → (r : IsRefusal id known Is layout here mid stop) → length waiting ≤ most
           → new ≡ told waiting did → (Is → fin ≡ mid) → (Is → (bytes : List ℕ) → left bytes → StandsFor mid.plain bytes)
-          → (Is → IsPast layout (done id known mid r.message).op → PastLimit left mid.plain (done id known mid r.message).op) → Halts id known Is left did new now s fin most stop
+          → (Is → IsPast layout (done id known mid r.message).op → PastLimit left mid.plain (done id known mid r.message).op) → Halts id known Is left did new now s fin memory most stop
       refused here layout new fin x r few is same leaves past = record {
         more = x.answered;
         are = x.are;
+        by_index = record { last = x.last; steps = x.by_index };
         served = λ ts y. served_so new (ts ++ x.answered) here (all_said here [] x new is ts y);
         most = λ ts. (let t = all_turns here [] x new is ts in omega (arith, t, few));
         break = At r.peer r.message;
@@ -183,36 +193,36 @@ module _ (id : ℕ) (known : Known) (Is : Type 0) where
       }
 
       -- it couldn't be settled
-      pub unsettled : (later : Held) (us : List (Taken Msg)) (new : List Event) (fin : State) → Gathers id known Is waiting now later s mid Stood us → length waiting ≤ most
-          → IsUnsettled waiting did new mid fin Stood left stop → Halts id known Is left did new now s fin most stop
-      unsettled later us new fin x few (inl u) = lost new fin (lost_of id known Is waiting now later s mid Stood us left x u.leaves) u.cause u.did_is
+      pub unsettled : (later : Held) (us : List (Taken Msg)) (new : List Event) (fin : State) → Gathers id known Is waiting now later s mid memory memory_mid Stood us → length waiting ≤ most
+          → IsUnsettled waiting did new mid fin Stood left stop → Halts id known Is left did new now s fin memory most stop
+      unsettled later us new fin x few (inl u) = lost new fin (lost_of id known Is waiting now later s mid memory memory_mid Stood us left x u.leaves) u.cause u.did_is
       unsettled later us new fin x few (inr u) = unsaid later us new fin u.count x few u.cause u.did_is (λ is. u.same _ (x.stands is).is) (λ is. u.leaves _ (x.stands is).is)
 
       -- it was settled, and then the node stops
-      pub stopped : (here : Held) (layout : Layout) (new : List Event) (fin : State) → IsStop id known Is waiting now here s mid layout Stood stop → length waiting ≤ most → new ≡ told waiting did
+      pub stopped : (here : Held) (layout : Layout) (new : List Event) (fin : State) → IsStop id known Is waiting now here s mid memory memory_mid layout Stood stop → length waiting ≤ most → new ≡ told waiting did
           → (Is → fin ≡ mid) → (Is → (bytes : List ℕ) → left bytes → StandsFor mid.plain bytes) → ((op : Option Op) → Is → IsPast layout op → PastLimit left mid.plain op)
-          → Halts id known Is left did new now s fin most stop
+          → Halts id known Is left did new now s fin memory most stop
       stopped here layout new fin x few is same leaves past = ⊎_elim
           (λ (e : stop ≡ NoMemory). unsaid x.later x.unanswered new fin (length waiting) x.gathers few e (is ∙ ap (λ (l : List (ℕ × List ℕ)). told l did) (sym (take_all waiting))) same leaves)
           (λ (r : (x.unanswered ≡ []) × IsRefusal id known Is layout x.later mid stop).
-          refused x.later layout new fin (subst (λ (us : List (Taken Msg)). Gathers id known Is waiting now x.later s mid Stood us) r.0 x.gathers) r.1 few is same leaves (λ held. past (done id known mid r.1.message).op held))
+          refused x.later layout new fin (subst (λ (us : List (Taken Msg)). Gathers id known Is waiting now x.later s mid memory memory_mid Stood us) r.0 x.gathers) r.1 few is same leaves (λ held. past (done id known mid r.1.message).op held))
           x.short
 
   -- ---- by how it ended ----
 
-  module _ (waiting : List (ℕ × List ℕ)) (now here : Held) (s mid : State) (layout : Layout) (Stood : Plain → Type 0) where
-    pub gathered_in : (e : Ending) → Ends id known Is waiting now here s mid layout Stood e → (later : Held) × (us : List (Taken Msg)) × Gathers id known Is waiting now later s mid Stood us
+  module _ (waiting : List (ℕ × List ℕ)) (now here : Held) (s mid : State) (memory memory_mid : Memory) (layout : Layout) (Stood : Plain → Type 0) where
+    pub gathered_in : (e : Ending) → Ends id known Is waiting now here s mid memory memory_mid layout Stood e → (later : Held) × (us : List (Taken Msg)) × Gathers id known Is waiting now later s mid memory memory_mid Stood us
     gathered_in ends.More x = (here, [], x)
     gathered_in (ends.Off peer) x = (put peer (Some x.bytes) here, [], x.gathers)
     gathered_in (ends.Stops stop) x = (x.later, x.unanswered, x.gathers)
 
-    pub stood_in : (e : Ending) → Ends id known Is waiting now here s mid layout Stood e → Is → (p : Plain) × Stood p
+    pub stood_in : (e : Ending) → Ends id known Is waiting now here s mid memory memory_mid layout Stood e → Is → (p : Plain) × Stood p
     stood_in e x is = (_, ((gathered_in e x).2.stands is).is)
 
-    pub stop_cause : (stop : Stop) → IsStop id known Is waiting now here s mid layout Stood stop → IsNodeStop Is stop
+    pub stop_cause : (stop : Stop) → IsStop id known Is waiting now here s mid memory memory_mid layout Stood stop → IsNodeStop Is stop
     stop_cause stop x = ⊎_elim (λ (e : stop ≡ NoMemory). rw e tt) (λ (r : (x.unanswered ≡ []) × IsRefusal id known Is layout x.later mid stop). r.1.cause) x.short
 
-    pub stop_other : (stop : Stop) → IsStop id known Is waiting now here s mid layout Stood stop → stop ≡ Disk → ⊥
+    pub stop_other : (stop : Stop) → IsStop id known Is waiting now here s mid memory memory_mid layout Stood stop → stop ≡ Disk → ⊥
     stop_other stop x is = ⊎_elim (λ (e : stop ≡ NoMemory). absurd (cc (e, is))) (λ (r : (x.unanswered ≡ []) × IsRefusal id known Is layout x.later mid stop). r.1.other is) x.short
 
 pub unsettled_cause : (Is : Type 0) (waiting : List (ℕ × List ℕ)) (did new : List Event) (s next : State) (Stood : Plain → Type 0) (left : List ℕ → Type 0) (stop : Stop)

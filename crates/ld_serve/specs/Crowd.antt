@@ -1,5 +1,5 @@
 -- A node that serves a crowd: each frame of a peer is a step, and where it stops.
-use Rattle.std.specs.Prelude.{◌≡◌, ◌≤◌, ◌+◌, ◌⊎◌, ◌++◌, ⊤, ℕ, List, true, Option}
+use Rattle.std.specs.Prelude.{◌≡◌, ◌≤◌, ◌+◌, ◌⊎◌, ◌++◌, ⊤, ℕ, List, [], ◌∷◌, true, Option}
 use Rattle.ld_msg.specs.declared.msg.Msg.{Msg}
 use Rattle.ld_past.specs.Events.{Event}
 use Rattle.ld_wire.specs.Frames.{frame_of}
@@ -16,6 +16,7 @@ use Rattle.ld_serve.specs.declared.stop.Which.TheVariants as journals
 use Rattle.ld_serve.specs.Serving.{State, after, answers, done, PastLimit}
 use Rattle.ld_serve.specs.Stops.{IsNodeStop}
 use Rattle.ld_serve.specs.Talking.{Given, AreGiven, IsLess, BeginsNone, AreServed, IsServing, IsBetweenStop}
+use Rattle.ld_serve.specs.Told.{Memory, AreIndexSteps}
 
 -- while it serves a crowd it stops for want of memory, or with the disk, the crowd or a store that is full; or with a payload that is missing, where its store doesn't hold what its disk has
 abbrev pub IsCrowdStop : Type 0 → Stop → Type 0
@@ -85,18 +86,37 @@ module _ (id : ℕ) (known : Known) (left : List ℕ → Type 0) (stop : Stop) w
   IsBreak last now (At peer m) = IsRefusedStep id known left last now m stop ⊎ IsUnsaidStep id known left last now m stop
   IsBreak last now (Among group) = IsLostGroup id known left last group stop ⊎ IsUnsaidGroup id known left last now group stop
 
--- a call that went on: the frames that it took with their answers, what is held then, how many turns it took, and each frame as a step where the store holds what the disk tells
-pub record Advances (after : State → Msg → State) (answers : State → Msg → List Msg) (Held : Type 0) (did new : List Event) (now then : ℕ → Option (List ℕ)) (s next : State) (turns : ℕ) : Type 0 where
+-- ---- over any disk ----
+
+-- the messages that were taken with the answers that were given, whoever sent them
+abbrev pub givens : List (Taken Given) → List Given
+givens [] = []
+givens (t ∷ ts) = t.1 ∷ givens ts
+
+-- whatever bytes the disk gave, each was answered by the index, but for the bytes of payloads, and the index is then as after these steps
+abbrev pub AreTaken : ℕ → Known → Memory → Memory → List (Taken Given) → Type 0
+AreTaken id known before now ts = AreIndexSteps id known before (givens ts) now
+
+pub record AreTakenOn (id : ℕ) (known : Known) (before : Memory) (ts : List (Taken Given)) : Type 0 where
+  pub last : Memory
+  pub steps : AreTaken id known before last ts
+
+-- ---- one call ----
+
+-- a call that went on: the frames that it took with their answers, what is held then, how many turns it took, what is so of them over any disk, and each frame as a step where the store holds what the disk tells
+pub record Advances (after : State → Msg → State) (answers : State → Msg → List Msg) (Held : Type 0) (did new : List Event) (now then : ℕ → Option (List ℕ)) (s next : State) (By : List (Taken Given) → Type 0) (turns : ℕ) : Type 0 where
   pub more : List (Taken Given)
   pub are : AreGiven more
+  pub by_index : By more
   pub serving : (ts : List (Taken Given)) → IsServing did ts now → IsServing new (ts ++ more) then
   pub turns_are : (ts : List (Taken Given)) → turns_of new (ts ++ more) ≡ turns_of did ts + turns
   pub steps : Held → (first : State) (ts : List (Taken Given)) → AreSteps after answers first ts s → AreSteps after answers first (ts ++ more) next
 
 -- a call that stopped
-pub record Halts (id : ℕ) (known : Known) (Held : Type 0) (left : List ℕ → Type 0) (did new : List Event) (now : ℕ → Option (List ℕ)) (s next : State) (turns : ℕ) (stop : Stop) : Type 0 where
+pub record Halts (id : ℕ) (known : Known) (Held : Type 0) (left : List ℕ → Type 0) (did new : List Event) (now : ℕ → Option (List ℕ)) (s next : State) (before : Memory) (turns : ℕ) (stop : Stop) : Type 0 where
   pub more : List (Taken Given)
   pub are : AreGiven more
+  pub by_index : AreTakenOn id known before more
   pub served : (ts : List (Taken Given)) → IsServing did ts now → AreServed new (ts ++ more)
   pub most : (ts : List (Taken Given)) → turns_of new (ts ++ more) ≤ turns_of did ts + turns
   pub break : Break
@@ -106,16 +126,19 @@ pub record Halts (id : ℕ) (known : Known) (Held : Type 0) (left : List ℕ →
 -- ---- the whole ----
 
 -- the frames that were taken, over all peers in order, with the answers that were given: of each peer what was read is its frames and then what is held of it, and what was said to it are the answers to its
--- frames; it was let go only at its end, when less than a frame was held of it, and dismissed only for bytes that begin no frame
-pub record IsHeardAll (did : List Event) (turns : ℕ) : Type 0 where
+-- frames; it was let go only at its end, when less than a frame was held of it, and dismissed only for bytes that begin no frame; over any disk, whatever bytes it gives, the answers are those of steps from
+-- the index, but for the bytes of payloads
+pub record IsHeardAll (id : ℕ) (known : Known) (before : Memory) (did : List Event) (turns : ℕ) : Type 0 where
   pub taken : List (Taken Given)
   pub are : AreGiven taken
+  pub by_index : AreTakenOn id known before taken
   pub peers : AreServed did taken
   pub turns_are : AreTurns did taken turns
 
-pub record IsHeardUntil (did : List Event) (turns : ℕ) : Type 0 where
+pub record IsHeardUntil (id : ℕ) (known : Known) (before : Memory) (did : List Event) (turns : ℕ) : Type 0 where
   pub taken : List (Taken Given)
   pub are : AreGiven taken
+  pub by_index : AreTakenOn id known before taken
   pub peers : AreServed did taken
   pub most : turns_of did taken ≤ turns
 

@@ -23,7 +23,8 @@ use Rattle.ld_serve.specs.declared.group.Ending.TheVariants as ends
 use Rattle.ld_serve.specs.Serving.{State, after, answers, done}
 use Rattle.ld_serve.specs.Stops.{IsNodeStop}
 use Rattle.ld_serve.specs.Talking.{Given, AreGiven, BeginsNone}
-use Rattle.ld_serve.specs.Crowd.{IsBehindSome}
+use Rattle.ld_serve.specs.Told.{Memory, IsIndexStep}
+use Rattle.ld_serve.specs.Crowd.{IsBehindSome, AreTaken}
 
 -- the answers that wait: to whom, and their bytes
 abbrev pub waiting_in : List Answer → List (ℕ × List ℕ)
@@ -45,18 +46,20 @@ abbrev pub before : List (Taken Msg) → (ℕ → Option (List ℕ)) → ℕ →
 before [] later = later
 before (t ∷ ts) later = put t.0 (Some (frame_of t.1 ++ unwrap_or (before ts later t.0) [])) (before ts later)
 
--- a message of this peer was staged, and its answers wait behind the others; what a crash leaves stands for what it stood for, or for the state before the message
-pub record Stages (after : State → Msg → State) (answers : State → Msg → List Msg) (waiting waiting_now : List (ℕ × List ℕ)) (peer : ℕ) (m : Msg) (s next : State) (Stood Stands : Plain → Type 0) : Type 0 where
+-- a message of this peer was staged, and its answers wait behind the others, of which this is so over any disk; what a crash leaves stands for what it stood for, or for the state before the message
+pub record Stages (after : State → Msg → State) (answers : State → Msg → List Msg) (waiting waiting_now : List (ℕ × List ℕ)) (peer : ℕ) (m : Msg) (s next : State) (By : List Msg → Type 0) (Stood Stands : Plain → Type 0) : Type 0 where
   pub given : List Msg
   pub are : AreMessages given
+  pub by_index : By given
   pub waits : waiting_now ≡ waiting ++ (peer, frames_of given) ∷ []
   pub step : (p : Plain) → Stood p → (given ≡ answers s m) × (next ≡ after s m)
   pub stands : (p : Plain) → Stood p → (q : Plain) × ((q ≡ p) ⊎ (q ≡ s.plain)) × Stands q
 
 -- one was refused, or there is no memory for its answers, when it is staged
-pub record IsKeptOut (id : ℕ) (known : Known) (layout : Layout) (m : Msg) (s next : State) (Stood Stands : Plain → Type 0) (stop : Stop) : Type 0 where
+pub record IsKeptOut (id : ℕ) (known : Known) (layout : Layout) (m : Msg) (s next : State) (memory memory_now : Memory) (Stood Stands : Plain → Type 0) (stop : Stop) : Type 0 where
   pub cause : IsNodeStop ((p : Plain) × Stood p) stop
   pub other : stop ≢ Disk
+  pub stays : memory_now ≡ memory
   pub step : (p : Plain) → Stood p → next ≡ s
   pub stands : (p : Plain) → Stood p → (q : Plain) × ((q ≡ p) ⊎ (q ≡ s.plain)) × Stands q
   pub past : stop ≡ Full Store → (p : Plain) → Stood p → IsPast layout (done id known s m).op
@@ -68,10 +71,11 @@ pub record IsUnanswered (id : ℕ) (known : Known) (m : Msg) (s next : State) (S
 
 -- ---- one frame ----
 
-module _ (id : ℕ) (known : Known) (waiting waiting_now : List (ℕ × List ℕ)) (now later : ℕ → Option (List ℕ)) (s next : State) (layout : Layout) (Stood Stands : Plain → Type 0) where
+module _ (id : ℕ) (known : Known) (waiting waiting_now : List (ℕ × List ℕ)) (now later : ℕ → Option (List ℕ)) (s next : State) (memory memory_now : Memory) (layout : Layout) (Stood Stands : Plain → Type 0) where
   -- nothing was staged
   pub record IsUnmoved : Type 0 where
     pub waits : waiting_now ≡ waiting
+    pub stays : memory_now ≡ memory
     pub step : (p : Plain) → Stood p → next ≡ s
     pub stands : (p : Plain) → Stood p → Stands p
 
@@ -83,7 +87,7 @@ module _ (id : ℕ) (known : Known) (waiting waiting_now : List (ℕ × List ℕ
     pub others : ℕ → Option (List ℕ)
     pub is : IsMessage message
     pub now_is : (q : ℕ) → now q ≡ put peer (Some (frame_of message ++ rest)) others q
-    pub stages : Stages (after id known) (answers id known) waiting waiting_now peer message s next Stood Stands
+    pub stages : Stages (after id known) (answers id known) waiting waiting_now peer message s next (λ given. IsIndexStep id known memory (message, given) memory_now) Stood Stands
     pub held_is : (q : ℕ) → held q ≡ put peer (Some rest) others q
 
   -- one was taken, and refused, or its answers don't wait
@@ -94,7 +98,7 @@ module _ (id : ℕ) (known : Known) (waiting waiting_now : List (ℕ × List ℕ
     pub others : ℕ → Option (List ℕ)
     pub now_is : (q : ℕ) → now q ≡ put peer (Some (frame_of message ++ rest)) others q
     pub waits : waiting_now ≡ waiting
-    pub why : IsKeptOut id known layout message s next Stood Stands stop ⊎ IsUnanswered id known message s next Stood Stands stop
+    pub why : IsKeptOut id known layout message s next memory memory_now Stood Stands stop ⊎ IsUnanswered id known message s next Stood Stands stop
 
   -- the bytes of a peer begin no frame
   pub record IsNoFrame (peer : ℕ) : Type 0 where
@@ -111,11 +115,19 @@ module _ (id : ℕ) (known : Known) (waiting waiting_now : List (ℕ × List ℕ
 
 -- ---- a whole group ----
 
+-- where all that was taken is answered, the node has this in memory
+abbrev pub IfAnswered : List (Taken Msg) → Memory → Memory → Type 0
+IfAnswered [] last now = now ≡ last
+IfAnswered (u ∷ us) last now = Unit {0}
+
 module _ (id : ℕ) (known : Known) (Held : Type 0) where
   -- frames were taken and staged, and the answers wait to all but the last ones; what a crash leaves stands for the state before them or behind some of them
-  pub record Gathers (waiting : List (ℕ × List ℕ)) (now later : ℕ → Option (List ℕ)) (s next : State) (Stands : Plain → Type 0) (unanswered : List (Taken Msg)) : Type 0 where
+  pub record Gathers (waiting : List (ℕ × List ℕ)) (now later : ℕ → Option (List ℕ)) (s next : State) (memory memory_now : Memory) (Stands : Plain → Type 0) (unanswered : List (Taken Msg)) : Type 0 where
     pub answered : List (Taken Given)
     pub are : AreGiven answered
+    pub last : Memory
+    pub by_index : AreTaken id known memory last answered
+    pub here : IfAnswered unanswered last memory_now
     pub waits : waiting ≡ answers_to answered
     pub held : (q : ℕ) → now q ≡ before (plain answered ++ unanswered) later q
     pub steps : Held → AreSteps (after id known) (answers id known) s answered (after_taken (after id known) s (plain answered))
@@ -143,21 +155,21 @@ module _ (id : ℕ) (known : Known) (Held : Type 0) where
   IsShort layout later next unanswered stop = (stop ≡ NoMemory) ⊎ ((unanswered ≡ []) × IsRefusal layout later next stop)
 
   -- why no further frame is taken
-  module _ (waiting : List (ℕ × List ℕ)) (now here : ℕ → Option (List ℕ)) (s next : State) (layout : Layout) (Stands : Plain → Type 0) where
+  module _ (waiting : List (ℕ × List ℕ)) (now here : ℕ → Option (List ℕ)) (s next : State) (memory memory_now : Memory) (layout : Layout) (Stands : Plain → Type 0) where
     pub record IsOff (peer : ℕ) : Type 0 where
       pub bytes : List ℕ
-      pub gathers : Gathers waiting now (put peer (Some bytes) here) s next Stands []
+      pub gathers : Gathers waiting now (put peer (Some bytes) here) s next memory memory_now Stands []
       pub gone : here peer ≡ None
       pub none : BeginsNone bytes
 
     pub record IsStop (stop : Stop) : Type 0 where
       pub later : ℕ → Option (List ℕ)
       pub unanswered : List (Taken Msg)
-      pub gathers : Gathers waiting now later s next Stands unanswered
+      pub gathers : Gathers waiting now later s next memory memory_now Stands unanswered
       pub short : IsShort layout later next unanswered stop
 
     abbrev pub Ends : Ending → Type 0
-    Ends ends.More = Gathers waiting now here s next Stands []
+    Ends ends.More = Gathers waiting now here s next memory memory_now Stands []
     Ends (ends.Off peer) = IsOff peer
     Ends (ends.Stops stop) = IsStop stop
 

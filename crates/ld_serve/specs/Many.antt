@@ -1,5 +1,5 @@
 -- A node is opened, and serves a crowd until its turns are taken, nobody is left to wait for, or it stops.
-use Rattle.std.specs.Prelude.{ℕ, List, Bool, Option, IfSome}
+use Rattle.std.specs.Prelude.{◌≡◌, ℕ, List, [], Bool, Option, IfSome}
 use Rattle.ld_msg.specs.Register.{Register as Contents}
 use Rattle.ld_op.specs.Plain.{Plain}
 use Rattle.ld_past.specs.Events.{Event}
@@ -8,6 +8,7 @@ use Rattle.ld_node.specs.Known.{Known}
 use Rattle.ld_serve.specs.declared.stop.Stop.{Stop}
 use Rattle.ld_serve.specs.Opening.{IsOpening}
 use Rattle.ld_serve.specs.Serving.{State, after, answers}
+use Rattle.ld_serve.specs.Told.{Memory}
 use Rattle.ld_serve.specs.Whole.{at_first}
 use Rattle.ld_serve.specs.Crowd.{IsHeardAll, IsHeardUntil, IsServedAll, IsServedUntil}
 
@@ -30,12 +31,16 @@ module _ (seen : List ℕ) (left : List ℕ → Type 0) (holds holds_now : Conte
 
 -- of a disk that may have shown bytes
 module _ (seen : Option (List ℕ)) (left : List ℕ → Type 0) (holds holds_now : Contents → Type 0) (id : ℕ) (known : Known) (format : Bool) where
-  -- the node was opened and served a crowd, and where the disk showed bytes that represent a plain state, its answers are those of that
+  -- the node was opened with some index, with nothing released, and served a crowd, and where the disk showed bytes that represent a plain state, its answers are those of that
   pub record HasServedCrowd (did : List Event) (turns : ℕ) : Type 0 where
-    pub heard : IsHeardAll did turns
+    pub first : Memory
+    pub nothing : first.released ≡ []
+    pub heard : IsHeardAll id known first did turns
     pub exact : IfSome seen (IfStands (λ bytes. CrowdServedOn bytes left holds holds_now id known format did turns))
 
-  -- it was opened, and stopped while it served
+  -- it was opened so, and stopped while it served
   pub record HasStoppedCrowd (did : List Event) (turns : ℕ) (stop : Stop) : Type 0 where
-    pub heard : IsHeardUntil did turns
+    pub first : Memory
+    pub nothing : first.released ≡ []
+    pub heard : IsHeardUntil id known first did turns
     pub exact : IfSome seen (IfStands (λ bytes. CrowdStoppedOn bytes left holds holds_now id known format did turns stop))

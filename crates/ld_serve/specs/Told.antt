@@ -10,7 +10,13 @@ use Rattle.ld_wire.specs.Frames.{frame_of}
 use Rattle.ld_wire.specs.Streams.{frames_of, AreMessages}
 use Rattle.ld_framed.specs.Reads.{ReadsWaiting, ReadsToEnd}
 use Rattle.ld_framed.specs.Writes.{Writes, WritesPart}
+use Rattle.ld_disk.specs.declared.disk.Disk.{Ghosts}
+use Rattle.ld_layout.specs.Layout.{Layout}
 use Rattle.ld_node.specs.Known.{Known}
+use Rattle.ld_node.specs.Msgs.{released_after}
+use Rattle.ld_node.specs.ByIndex.{DoesByIndex}
+use Rattle.ld_node.specs.declared.node.Node.{Node}
+use Rattle.ld_node.specs.Node.{layout_of, released_of}
 use Rattle.ld_serve.specs.declared.stop.Stop.{Stop}
 use Rattle.ld_serve.specs.declared.stop.Stop.TheVariants.{Disk}
 use Rattle.ld_serve.specs.Course.{Cut, Idle, Unread, Refused, Unsent}
@@ -87,7 +93,34 @@ module _ {S : Type 0} (after : S → Msg → S) (answers : S → Msg → List Ms
   AreSteps s [] now = now ≡ s
   AreSteps s (t ∷ ts) now = (t.1 ≡ answers s t.0) × AreSteps (after s t.0) ts now
 
+-- ---- the frames by what the node has in memory, over any disk ----
+
+-- how its journal lies, with the index, and the released numbers
+pub record Memory : Type 0 where
+  pub layout : Layout
+  pub released : List (ℕ × ℕ)
+
+module _ {D : Type 0} {g : Ghosts D} where
+  abbrev pub memory_of : Node D g → Memory
+  memory_of node = record { layout = layout_of node; released = released_of node }
+
 module _ (id : ℕ) (known : Known) where
+  -- whatever bytes the disk gave, a message was answered by the index, but for the bytes of payloads, and the index is then as after that step
+  pub record IsIndexStep (before : Memory) (t : Given) (now : Memory) : Type 0 where
+    pub done : DoesByIndex id known before.released t.0 t.1 before.layout now.layout
+    pub released : now.released ≡ released_after id known before.released t.0
+
+  abbrev pub AreIndexSteps : Memory → List Given → Memory → Type 0
+  AreIndexSteps before [] now = now ≡ before
+  AreIndexSteps before (t ∷ ts) now = (next : Memory) × IsIndexStep before t next × AreIndexSteps next ts now
+
+  -- where it stopped, behind the last whole turn
+  abbrev pub HaltsInMemory : Memory → Halt → Memory → Type 0
+  HaltsInMemory before Between now = now ≡ before
+  HaltsInMemory before (Reading held) now = now ≡ before
+  HaltsInMemory before (Refusing m) now = now ≡ before
+  HaltsInMemory before (Answering m given) now = IsIndexStep before (m, given) now
+
   -- the state in which it stopped, behind the last whole turn
   abbrev pub state_at : State → Halt → State
   state_at s Between = s
@@ -113,22 +146,24 @@ module _ (id : ℕ) (known : Known) where
   -- ---- the whole ----
 
   -- where the store holds what the disk tells, each frame that was taken is one step of the node
-  pub record IsTold (Held : Type 0) (old new : List Event) (first last : State) (turns : ℕ) : Type 0 where
+  pub record IsTold (Held : Type 0) (old new : List Event) (first last : State) (before now : Memory) (turns : ℕ) : Type 0 where
     pub taken : List Given
     pub ends : Ends old new taken turns
+    pub by_index : AreIndexSteps before taken now
     pub steps : Held → AreSteps (after id known) (answers id known) first taken last
 
   -- the same of those before it stopped; the node is in the state that was reached, unless its disk failed
-  pub record IsToldUntil (Held : Type 0) (left : List ℕ → Type 0) (old new : List Event) (first now : State) (turns : ℕ) (stop : Stop) : Type 0 where
+  pub record IsToldUntil (Held : Type 0) (left : List ℕ → Type 0) (old new : List Event) (first now : State) (begun ended : Memory) (turns : ℕ) (stop : Stop) : Type 0 where
     pub taken : List Given
     pub halt : Halt
     pub ends : EndsAt stop halt old new taken turns
+    pub by_index : (middle : Memory) × AreIndexSteps begun taken middle × HaltsInMemory middle halt ended
     pub exact : Held → (last : State) × AreSteps (after id known) (answers id known) first taken last × IsCutAt left stop last halt × ((stop ≡ Disk) ⊎ (state_at last halt ≡ now))
 
   -- ---- one turn ----
 
   -- a frame of the present peer was taken, and answered
-  pub record TakesFrame (Held : Type 0) (did new : List Event) (held rest : List ℕ) (s next : State) : Type 0 where
+  pub record TakesFrame (Held : Type 0) (did new : List Event) (held rest : List ℕ) (s next : State) (before now : Memory) : Type 0 where
     pub mid : List Event
     pub message : Msg
     pub given : List Msg
@@ -136,24 +171,27 @@ module _ (id : ℕ) (known : Known) where
     pub is : IsMessage message
     pub writes : Writes mid new (frames_of given)
     pub are : AreMessages given
+    pub by_index : IsIndexStep before (message, given) now
     pub step : Held → (given ≡ answers id known s message) × (next ≡ after id known s message)
 
   -- it ended
-  pub record TakesEnd (Held : Type 0) (did new : List Event) (held : List ℕ) (s next : State) : Type 0 where
+  pub record TakesEnd (Held : Type 0) (did new : List Event) (held : List ℕ) (s next : State) (before now : Memory) : Type 0 where
     pub rest : List ℕ
     pub reads : ReadsToEnd did new held rest
+    pub stays : now ≡ before
     pub same : Held → next ≡ s
 
   -- it stopped
-  pub record BreaksOff (Held : Type 0) (left : List ℕ → Type 0) (did new : List Event) (held : List ℕ) (s now : State) (stop : Stop) : Type 0 where
+  pub record BreaksOff (Held : Type 0) (left : List ℕ → Type 0) (did new : List Event) (held : List ℕ) (s now : State) (begun ended : Memory) (stop : Stop) : Type 0 where
     pub halt : Halt
     pub last : Stops stop did new (Some held) halt
+    pub by_index : HaltsInMemory begun halt ended
     pub exact : Held → IsCutAt left stop s halt × ((stop ≡ Disk) ⊎ (state_at s halt ≡ now))
 
-  abbrev pub TellsTurn : Type 0 → (List ℕ → Type 0) → List Event → List Event → List ℕ → List ℕ → State → State → Result Bool Stop → Type 0
-  TellsTurn Held left did new held rest s next (Ok true) = TakesFrame Held did new held rest s next
-  TellsTurn Held left did new held rest s next (Ok false) = TakesEnd Held did new held s next
-  TellsTurn Held left did new held rest s next (Err stop) = BreaksOff Held left did new held s next stop
+  abbrev pub TellsTurn : Type 0 → (List ℕ → Type 0) → List Event → List Event → List ℕ → List ℕ → State → State → Memory → Memory → Result Bool Stop → Type 0
+  TellsTurn Held left did new held rest s next before now (Ok true) = TakesFrame Held did new held rest s next before now
+  TellsTurn Held left did new held rest s next before now (Ok false) = TakesEnd Held did new held s next before now
+  TellsTurn Held left did new held rest s next before now (Err stop) = BreaksOff Held left did new held s next before now stop
 
 -- what is held of the present peer, where one is there
 abbrev pub held_of : Bool → List ℕ → Option (List ℕ)

@@ -14,11 +14,27 @@ use Rattle.ld_serve.specs.Heard.{Heard, HeardUntil}
 use Rattle.ld_serve.specs.Opening.{IsOpening, IsOpeningStop, ShowsSame, LeftByFormat, HoldsDrawOrNot}
 use Rattle.ld_serve.specs.Serving.{State, after, answers, IsCut}
 use Rattle.ld_serve.specs.Talking.{Given}
-use Rattle.ld_serve.specs.Told.{Ends, EndsAt, Halt, AreSteps, IsCutAt}
+use Rattle.ld_serve.specs.Told.{Ends, EndsAt, Halt, Memory, AreSteps, AreIndexSteps, HaltsInMemory, IsCutAt}
 
 -- a node is opened in this state, with nothing released
 abbrev pub at_first : Plain → State
 at_first p = record { plain = p; released = [] }
+
+-- over any disk, whatever bytes it gave: the node was opened with some index, with nothing released, and took these frames, with these answers
+pub record TookByIndex (id : ℕ) (known : Known) (taken : List Given) : Type 0 where
+  pub first : Memory
+  pub opened : first.released ≡ []
+  pub last : Memory
+  pub steps : AreIndexSteps id known first taken last
+
+-- and stopped behind them
+pub record TookUntilByIndex (id : ℕ) (known : Known) (taken : List Given) (halt : Halt) : Type 0 where
+  pub first : Memory
+  pub opened : first.released ≡ []
+  pub last : Memory
+  pub steps : AreIndexSteps id known first taken last
+  pub now : Memory
+  pub halts : HaltsInMemory id known last halt now
 
 -- of a disk that showed these bytes, of which this may be left now, and of a register that may have held these contents, and may hold those now
 module _ (seen : List ℕ) (left : List ℕ → Type 0) (holds holds_now : Contents → Type 0) (id : ℕ) (known : Known) (format : Bool) where
@@ -69,12 +85,14 @@ module _ (seen : Option (List ℕ)) (left : List ℕ → Type 0) (holds holds_no
   pub record HasTold (old new : List Event) (turns : ℕ) : Type 0 where
     pub taken : List Given
     pub ends : Ends old new taken turns
+    pub by_index : TookByIndex id known taken
     pub exact : IfSome seen (IfStands (λ bytes. TookOn bytes left holds holds_now id known format taken))
 
   pub record HasToldUntil (old new : List Event) (turns : ℕ) (stop : Stop) : Type 0 where
     pub taken : List Given
     pub halt : Halt
     pub ends : EndsAt stop halt old new taken turns
+    pub by_index : TookUntilByIndex id known taken halt
     pub exact : IfSome seen (IfStands (λ bytes. TookUntilOn bytes left holds holds_now id known format taken halt stop))
 
 -- of a disk, its counts of faults, the bytes that it showed and shows, and what might be left of it and may be now; and of a register

@@ -12,7 +12,8 @@ ghost use Rattle.ld_serve.specs.Serving.{state_of, after, answers};
 ghost use Rattle.ld_serve.specs.Stops.{IsNodeStop, DiskCounts, LinkCounts};
 ghost use Rattle.ld_serve.specs.Chats.{held_in};
 ghost use Rattle.ld_serve.specs.Talking.{BeginsNone};
-ghost use Rattle.ld_serve.specs.Crowd.{IsCrowdStop, Advances, Halts, IsHeardAll, IsHeardUntil, IsServedAll, IsServedUntil};
+ghost use Rattle.ld_serve.specs.Told.{memory_of};
+ghost use Rattle.ld_serve.specs.Crowd.{IsCrowdStop, AreTaken, Advances, Halts, IsHeardAll, IsHeardUntil, IsServedAll, IsServedUntil};
 
 use crate::Stop;
 use crate::chats::Chats;
@@ -61,10 +62,10 @@ fn serve_peer<D: Disk, C: Crowd>(
     requires works { must_load node.old ≡ false }
     ensures len { length buf.new ≡ length buf.old }
     ensures on { IfOk result (Advances (after (id_of node.old) (known_of node.old)) (answers (id_of node.old) (known_of node.old)) (Holds D.seen D.may_leave node.old)
-        (C.did crowd.old) (C.did crowd.new) (put peer (Some decoder.bytes) (held_in chats.old.chats)) (held_in chats.new.chats) (state_of node.old) (state_of node.new)) }
+        (C.did crowd.old) (C.did crowd.new) (put peer (Some decoder.bytes) (held_in chats.old.chats)) (held_in chats.new.chats) (state_of node.old) (state_of node.new) (AreTaken (id_of node.old) (known_of node.old) (memory_of node.old) (memory_of node.new))) }
     ensures few { IfOk result (λ n. n ≤ most) }
     ensures off { IfErr result (Halts (id_of node.old) (known_of node.old) (Holds D.seen D.may_leave node.old) (D.may_leave (disk_of node.new))
-        (C.did crowd.old) (C.did crowd.new) (put peer (Some decoder.bytes) (held_in chats.old.chats)) (state_of node.old) (state_of node.new) most) }
+        (C.did crowd.old) (C.did crowd.new) (put peer (Some decoder.bytes) (held_in chats.old.chats)) (state_of node.old) (state_of node.new) (memory_of node.old) most) }
     ensures asked { length (C.did crowd.old) ≤ length (C.did crowd.new) }
     ensures rest { (id_of node.new ≡ id_of node.old) × (known_of node.new ≡ known_of node.old) × (is_blank node.new ≡ false) }
     ensures itself { D.identity (disk_of node.new) ≡ D.identity (disk_of node.old) }
@@ -109,10 +110,10 @@ fn serve_next<D: Disk, C: Crowd>(
     requires works { must_load node.old ≡ false }
     ensures len { length buf.new ≡ length buf.old }
     ensures on { IfOk result (Advances (after (id_of node.old) (known_of node.old)) (answers (id_of node.old) (known_of node.old)) (Holds D.seen D.may_leave node.old)
-        (C.did crowd.old) (C.did crowd.new) (held_in chats.old.chats) (held_in chats.new.chats) (state_of node.old) (state_of node.new)) }
+        (C.did crowd.old) (C.did crowd.new) (held_in chats.old.chats) (held_in chats.new.chats) (state_of node.old) (state_of node.new) (AreTaken (id_of node.old) (known_of node.old) (memory_of node.old) (memory_of node.new))) }
     ensures few { IfOk result (λ n. n ≤ most) }
     ensures off { IfErr result (Halts (id_of node.old) (known_of node.old) (Holds D.seen D.may_leave node.old) (D.may_leave (disk_of node.new))
-        (C.did crowd.old) (C.did crowd.new) (held_in chats.old.chats) (state_of node.old) (state_of node.new) most) }
+        (C.did crowd.old) (C.did crowd.new) (held_in chats.old.chats) (state_of node.old) (state_of node.new) (memory_of node.old) most) }
     ensures asked { length (C.did crowd.old) ≤ length (C.did crowd.new) }
     ensures rest { (id_of node.new ≡ id_of node.old) × (known_of node.new ≡ known_of node.old) × (is_blank node.new ≡ false) }
     ensures itself { D.identity (disk_of node.new) ≡ D.identity (disk_of node.old) }
@@ -146,11 +147,11 @@ fn go<D: Disk, C: Crowd>(
     requires works { must_load node.old ≡ false }
     ensures len { length buf.new ≡ length buf.old }
     ensures on { IfOk result (λ o. Advances (after (id_of node.old) (known_of node.old)) (answers (id_of node.old) (known_of node.old)) (Holds D.seen D.may_leave node.old)
-        (C.did crowd.old) (C.did crowd.new) (held_in chats.old.chats) (held_in chats.new.chats) (state_of node.old) (state_of node.new) (unwrap_or o 0)) }
+        (C.did crowd.old) (C.did crowd.new) (held_in chats.old.chats) (held_in chats.new.chats) (state_of node.old) (state_of node.new) (AreTaken (id_of node.old) (known_of node.old) (memory_of node.old) (memory_of node.new)) (unwrap_or o 0)) }
     ensures few { IfOk result (λ o. IfSome o (λ n. n ≤ most)) }
     ensures over { IfOk result (λ o. o ≡ None → is_over (C.did crowd.new) ≡ true) }
     ensures off { IfErr result (Halts (id_of node.old) (known_of node.old) (Holds D.seen D.may_leave node.old) (D.may_leave (disk_of node.new))
-        (C.did crowd.old) (C.did crowd.new) (held_in chats.old.chats) (state_of node.old) (state_of node.new) most) }
+        (C.did crowd.old) (C.did crowd.new) (held_in chats.old.chats) (state_of node.old) (state_of node.new) (memory_of node.old) most) }
     ensures asked { OnOk result (length (C.did crowd.old) + 1 ≤ length (C.did crowd.new)) }
     ensures rest { (id_of node.new ≡ id_of node.old) × (known_of node.new ≡ known_of node.old) × (is_blank node.new ≡ false) }
     ensures itself { D.identity (disk_of node.new) ≡ D.identity (disk_of node.old) }
@@ -179,7 +180,8 @@ fn go<D: Disk, C: Crowd>(
 /// frame is dismissed alone, and so is one that is silent for too long, by the crowd; one that ended is let go once each
 /// frame of it is answered. A turn is a frame that was taken, or a peer that was let go or dismissed. It ends after so
 /// many turns, whatever the peers have left to say, or where nobody is left to wait for, or once it has looked at the crowd
-/// 2^64-1 times.
+/// 2^64-1 times. Once a group is answered the crowd is told which epochs it closed, and which segments of the store were
+/// begun for it, as far as there is memory to keep that until then.
 ///
 /// It stops with `Link` where a call of the crowd failed, `Disk` where a call of the node's disk failed, a read of a
 /// payload too, when the node has to be loaded again, `Full(Store)` where a step's record, or the segment that it needs,
@@ -199,9 +201,11 @@ pub fn serve_crowd<D: Disk, C: Crowd>(
 
     // Of each peer what was read is the frames that were taken and then what is held of it, and what was said to it are
     // the answers to these, in order, and nothing else. It was let go only at its end, when less than a frame was held of
-    // it, and dismissed only for bytes that begin no frame: but for silence, which the crowd alone tells.
-    ensures heard { OnOk result (IsHeardAll (C.did crowd.new) turns) }
-    ensures heard_until { OnErr result (IsHeardUntil (C.did crowd.new) turns) }
+    // it, and dismissed only for bytes that begin no frame: but for silence, which the crowd alone tells. Over any disk,
+    // whatever bytes it gives, the answers to each frame are those of a step from the index, but for the bytes of payloads,
+    // and the index is then as after that step.
+    ensures heard { OnOk result (IsHeardAll (id_of node.old) (known_of node.old) (memory_of node.old) (C.did crowd.new) turns) }
+    ensures heard_until { OnErr result (IsHeardUntil (id_of node.old) (known_of node.old) (memory_of node.old) (C.did crowd.new) turns) }
 
     // Where the store holds what the disk tells, each frame is one step of the node, and its answers are those of that step.
     ensures served { Holds D.seen D.may_leave node.old

@@ -5,19 +5,21 @@ ghost use Rattle.ld_op.specs.Plain.{Plain};
 ghost use Rattle.ld_msg.specs.Bounds.{IsMessage};
 ghost use Rattle.ld_wire.specs.Frames.{frame_of};
 ghost use Rattle.ld_store.specs.Ops.{StandsForEither};
-ghost use Rattle.ld_node.specs.Node.{id_of, known_of, disk_of, layout_of, plain_of, must_load, is_blank, Holds, HoldsOr};
+ghost use Rattle.ld_node.specs.Node.{id_of, known_of, disk_of, layout_of, released_of, plain_of, must_load, is_blank, Holds, HoldsOr};
 ghost use Rattle.ld_crowd.specs.Serving.{put};
 ghost use Rattle.ld_serve.specs.Serving.{State, state_of, after, answers};
 ghost use Rattle.ld_serve.specs.Stops.{IsNodeStop, DiskCounts};
 ghost use Rattle.ld_serve.specs.Chats.{held_in};
-ghost use Rattle.ld_serve.specs.Crowd.{Advances, Halts};
+ghost use Rattle.ld_serve.specs.Told.{memory_of, IsIndexStep};
+ghost use Rattle.ld_serve.specs.Crowd.{AreTaken, Advances, Halts};
 ghost use Rattle.ld_serve.specs.Group.{waiting_in, told, Stages, IsKeptOut, IsUnanswered, Tries, IsLost, Ends, IsUnsettled, turns_off};
 
 use crate::Stop;
 use crate::answer::frames;
 use crate::chats::Chats;
+use crate::news::{Standing, add_news, note_all};
 use crate::turn::stop_of;
-use ld_crowd::Crowd;
+use ld_crowd::{Crowd, News};
 use ld_disk::Disk;
 use ld_ids::NoMemory;
 use ld_io::NoMemory as Failure;
@@ -39,11 +41,13 @@ pub(crate) struct Answer {
     pub(crate) bytes: Vec<u8>,
 }
 
-/// The answers of a group that wait until it is durable, in the order of its frames, and how many bytes they are.
+/// The answers of a group that wait until it is durable, in the order of its frames, and how many bytes they are; and the news
+/// that wait for it.
 #[derive(Drop)]
 pub(crate) struct Group {
     pub(crate) answers: Vec<Answer>,
     size: usize,
+    news: Vec<News>,
 }
 
 /// Why no further frame is taken.
@@ -65,6 +69,7 @@ impl Group {
         Group {
             answers: Vec::new(alloc),
             size: 0,
+            news: Vec::new(alloc),
         }
     }
 
@@ -92,7 +97,7 @@ impl Group {
     }
 }
 
-/// Stages a message of this peer; its answers wait behind the others.
+/// Stages a message of this peer; its answers wait behind the others, and its news too.
 ///
 /// It stops as the node refuses the message, and with `NoMemory`, when it is staged and its answers don't wait.
 fn stage_message<D: Disk>(
@@ -106,10 +111,10 @@ fn stage_message<D: Disk>(
     requires formatted { is_blank node.old ≡ false }
     requires works { must_load node.old ≡ false }
     ensures staged { OnOk result (Stages (after (id_of node.old) (known_of node.old)) (answers (id_of node.old) (known_of node.old)) (waiting_in group.old.answers.items) (waiting_in group.new.answers.items) peer message.now
-        (state_of node.old) (state_of node.new) (HoldsOr D.seen D.may_leave node.old) (HoldsOr D.seen D.may_leave node.new)) }
+        (state_of node.old) (state_of node.new) (λ given. IsIndexStep (id_of node.old) (known_of node.old) (memory_of node.old) (message.now, given) (memory_of node.new)) (HoldsOr D.seen D.may_leave node.old) (HoldsOr D.seen D.may_leave node.new)) }
     ensures same { IfErr result (λ _. waiting_in group.new.answers.items ≡ waiting_in group.old.answers.items) }
     ensures off { IfErr result (λ stop. (stop ≡ Stop.Disk)
-        ⊎ (IsKeptOut (id_of node.old) (known_of node.old) (layout_of node.new) message.now (state_of node.old) (state_of node.new) (HoldsOr D.seen D.may_leave node.old) (HoldsOr D.seen D.may_leave node.new) stop
+        ⊎ (IsKeptOut (id_of node.old) (known_of node.old) (layout_of node.new) message.now (state_of node.old) (state_of node.new) (memory_of node.old) (memory_of node.new) (HoldsOr D.seen D.may_leave node.old) (HoldsOr D.seen D.may_leave node.new) stop
         ⊎ IsUnanswered (id_of node.old) (known_of node.old) message.now (state_of node.old) (state_of node.new) (HoldsOr D.seen D.may_leave node.old) (HoldsOr D.seen D.may_leave node.new) stop)) }
     ensures leaves { (p : Plain) (bytes : List ℕ) → HoldsOr D.seen D.may_leave node.old p → D.may_leave (disk_of node.new) bytes → IfErr result (λ stop. stop ≡ Stop.Disk → StandsForEither p (plain_of node.old) bytes) }
     ensures rest { (id_of node.new ≡ id_of node.old) × (known_of node.new ≡ known_of node.old) × (is_blank node.new ≡ false) }
@@ -117,10 +122,13 @@ fn stage_message<D: Disk>(
     ensures works { MatchResult result (λ _. must_load node.new ≡ false) (λ stop. (stop ≡ Stop.Disk) ⊎ (must_load node.new ≡ false)) }
     ensures disk_counts { MatchResult result (λ _. D.faults (disk_of node.new) ≡ D.faults (disk_of node.old)) (DiskCounts (D.faults (disk_of node.old)) (D.faults (disk_of node.new))) }
 {
+    let before = Standing::of(node, message);
     let replies = match node.stage_msg(alloc, message) {
         Ok(replies) => replies,
         Err(fault) => return Err(stop_of(fault)),
     };
+    let now = Standing::of(node, message);
+    add_news(&mut group.news, before, now, message);
     let Ok(bytes) = frames(alloc, replies.as_slice()) else {
         return Err(Stop::NoMemory);
     };
@@ -148,7 +156,7 @@ fn stage<D: Disk>(
     requires formatted { is_blank node.old ≡ false }
     requires works { must_load node.old ≡ false }
     ensures tries { IfOk result (Tries (id_of node.old) (known_of node.old) (waiting_in group.old.answers.items) (waiting_in group.new.answers.items) (put peer (Some (frame_of message ++ decoder.bytes)) (held_in chats.old.chats)) (held_in chats.new.chats)
-        (state_of node.old) (state_of node.new) (layout_of node.new) (HoldsOr D.seen D.may_leave node.old) (HoldsOr D.seen D.may_leave node.new)) }
+        (state_of node.old) (state_of node.new) (memory_of node.old) (memory_of node.new) (layout_of node.new) (HoldsOr D.seen D.may_leave node.old) (HoldsOr D.seen D.may_leave node.new)) }
     ensures leaves { (p : Plain) (bytes : List ℕ) → HoldsOr D.seen D.may_leave node.old p → D.may_leave (disk_of node.new) bytes → OnErr result (StandsForEither p (plain_of node.old) bytes) }
     ensures few { IfOk result (λ ending. length (waiting_in group.new.answers.items) + turns_off ending ≤ length (waiting_in group.old.answers.items) + 1) }
     ensures stops { IfErr result (λ stop. stop ≡ Stop.Disk) }
@@ -186,7 +194,7 @@ fn take<D: Disk>(
     requires formatted { is_blank node.old ≡ false }
     requires works { must_load node.old ≡ false }
     ensures tries { IfOk result (Tries (id_of node.old) (known_of node.old) (waiting_in group.old.answers.items) (waiting_in group.new.answers.items) (put peer (Some decoder.bytes) (held_in chats.old.chats)) (held_in chats.new.chats)
-        (state_of node.old) (state_of node.new) (layout_of node.new) (HoldsOr D.seen D.may_leave node.old) (HoldsOr D.seen D.may_leave node.new)) }
+        (state_of node.old) (state_of node.new) (memory_of node.old) (memory_of node.new) (layout_of node.new) (HoldsOr D.seen D.may_leave node.old) (HoldsOr D.seen D.may_leave node.new)) }
     ensures leaves { (p : Plain) (bytes : List ℕ) → HoldsOr D.seen D.may_leave node.old p → D.may_leave (disk_of node.new) bytes → OnErr result (StandsForEither p (plain_of node.old) bytes) }
     ensures few { IfOk result (λ ending. length (waiting_in group.new.answers.items) + turns_off ending ≤ length (waiting_in group.old.answers.items) + 1) }
     ensures stops { IfErr result (λ stop. stop ≡ Stop.Disk) }
@@ -221,7 +229,7 @@ fn take_next<D: Disk, C: Crowd>(
     requires formatted { is_blank node.old ≡ false }
     requires works { must_load node.old ≡ false }
     ensures tries { IfOk result (Tries (id_of node.old) (known_of node.old) (waiting_in group.old.answers.items) (waiting_in group.new.answers.items) (held_in chats.old.chats) (held_in chats.new.chats)
-        (state_of node.old) (state_of node.new) (layout_of node.new) (HoldsOr D.seen D.may_leave node.old) (HoldsOr D.seen D.may_leave node.new)) }
+        (state_of node.old) (state_of node.new) (memory_of node.old) (memory_of node.new) (layout_of node.new) (HoldsOr D.seen D.may_leave node.old) (HoldsOr D.seen D.may_leave node.new)) }
     ensures leaves { (p : Plain) (bytes : List ℕ) → HoldsOr D.seen D.may_leave node.old p → D.may_leave (disk_of node.new) bytes → OnErr result (StandsForEither p (plain_of node.old) bytes) }
     ensures few { IfOk result (λ ending. length (waiting_in group.new.answers.items) + turns_off ending ≤ length (waiting_in group.old.answers.items) + 1) }
     ensures stops { IfErr result (λ stop. stop ≡ Stop.Disk) }
@@ -266,7 +274,7 @@ fn take_group<D: Disk, C: Crowd>(
     requires works { must_load node.old ≡ false }
     ensures gathered { MatchResult result
         (Ends (id_of node.old) (known_of node.old) (Holds D.seen D.may_leave node.old) (waiting_in group.new.answers.items) (put peer (Some (frame_of message ++ decoder.bytes)) (held_in chats.old.chats)) (held_in chats.new.chats)
-        (state_of node.old) (state_of node.new) (layout_of node.new) (HoldsOr D.seen D.may_leave node.new))
+        (state_of node.old) (state_of node.new) (memory_of node.old) (memory_of node.new) (layout_of node.new) (HoldsOr D.seen D.may_leave node.new))
         (λ _. IsLost (id_of node.old) (known_of node.old) (Holds D.seen D.may_leave node.old) (put peer (Some (frame_of message ++ decoder.bytes)) (held_in chats.old.chats)) (state_of node.old) (D.may_leave (disk_of node.new))) }
     ensures few { IfOk result (λ ending. length (waiting_in group.new.answers.items) + turns_off ending ≤ most) }
     ensures stops { IfErr result (λ stop. stop ≡ Stop.Disk) }
@@ -303,19 +311,20 @@ fn say_all<C: Crowd>(crowd: &mut C, answers: &[Answer]) -> Result<(), Failure>
     Ok(())
 }
 
-/// Makes what was staged durable, and then says the answers, in order.
+/// Makes what was staged durable, then says the answers, in order, and tells the news.
 ///
-/// It stops with `Disk` where a call of the disk failed, when nothing is said, and with `NoMemory`.
+/// It stops with `Disk` where a call of the disk failed, when nothing is said, and with `NoMemory`. No news are told then.
 fn settle<D: Disk, C: Crowd>(
     node: &mut Node<D>,
     crowd: &mut C,
     answers: &[Answer],
+    news: &[News],
 ) -> Result<(), Stop>
     requires works { must_load node.old ≡ false }
     ensures said { OnOk result (C.did crowd.new ≡ told (waiting_in answers.now) (C.did crowd.old)) }
     ensures durable { (p : Plain) → HoldsOr D.seen D.may_leave node.old p → OnOk result (Holds D.seen D.may_leave node.new × (state_of node.new ≡ state_of node.old)) }
     ensures off { IfErr result (IsUnsettled (waiting_in answers.now) (C.did crowd.old) (C.did crowd.new) (state_of node.old) (state_of node.new) (HoldsOr D.seen D.may_leave node.old) (D.may_leave (disk_of node.new))) }
-    ensures layout { layout_of node.new ≡ layout_of node.old }
+    ensures memory { (layout_of node.new ≡ layout_of node.old) × (released_of node.new ≡ released_of node.old) }
     ensures rest { (id_of node.new ≡ id_of node.old) × (known_of node.new ≡ known_of node.old) × (is_blank node.new ≡ is_blank node.old) }
     ensures itself { D.identity (disk_of node.new) ≡ D.identity (disk_of node.old) }
     ensures works { OnOk result (must_load node.new ≡ false) }
@@ -330,15 +339,18 @@ fn settle<D: Disk, C: Crowd>(
         },
     }
     match say_all(crowd, answers) {
-        Ok(()) => Ok(()),
+        Ok(()) => {
+            note_all(crowd, news);
+            Ok(())
+        }
         Err(_) => Err(Stop::NoMemory),
     }
 }
 
 /// Handles a message whose frame was taken of this peer, of whom that is held which the decoder holds, and those of further
 /// frames that are held of the peers in the line, at most so many in all, as a group: each is one step of the node, and their
-/// answers are said, to the peer that sent the frame, once all are durable. A peer whose bytes begin no frame ends the group
-/// and is dismissed. It says how many turns that was.
+/// answers are said, to the peer that sent the frame, once all are durable, and then their news are told. A peer whose bytes
+/// begin no frame ends the group and is dismissed. It says how many turns that was.
 ///
 /// It stops as the node refuses a message, when what was staged before is made durable and answered, and with `NoMemory`;
 /// and with `Disk`, when nothing of the group is answered.
@@ -358,9 +370,9 @@ pub(crate) fn serve_group<D: Disk, C: Crowd>(
     requires formatted { is_blank node.old ≡ false }
     requires works { must_load node.old ≡ false }
     ensures on { IfOk result (Advances (after (id_of node.old) (known_of node.old)) (answers (id_of node.old) (known_of node.old)) (Holds D.seen D.may_leave node.old)
-        (C.did crowd.old) (C.did crowd.new) (put peer (Some (frame_of message ++ decoder.bytes)) (held_in chats.old.chats)) (held_in chats.new.chats) (state_of node.old) (state_of node.new)) }
+        (C.did crowd.old) (C.did crowd.new) (put peer (Some (frame_of message ++ decoder.bytes)) (held_in chats.old.chats)) (held_in chats.new.chats) (state_of node.old) (state_of node.new) (AreTaken (id_of node.old) (known_of node.old) (memory_of node.old) (memory_of node.new))) }
     ensures off { IfErr result (Halts (id_of node.old) (known_of node.old) (Holds D.seen D.may_leave node.old) (D.may_leave (disk_of node.new))
-        (C.did crowd.old) (C.did crowd.new) (put peer (Some (frame_of message ++ decoder.bytes)) (held_in chats.old.chats)) (state_of node.old) (state_of node.new) most) }
+        (C.did crowd.old) (C.did crowd.new) (put peer (Some (frame_of message ++ decoder.bytes)) (held_in chats.old.chats)) (state_of node.old) (state_of node.new) (memory_of node.old) most) }
     ensures few { IfOk result (λ count. count ≤ most) }
     ensures asked { length (C.did crowd.old) ≤ length (C.did crowd.new) }
     ensures faults { C.faults crowd.new ≡ C.faults crowd.old }
@@ -375,7 +387,7 @@ pub(crate) fn serve_group<D: Disk, C: Crowd>(
     let ending = take_group(
         alloc, node, crowd, chats, &mut group, peer, decoder, message, most,
     )?;
-    settle(node, crowd, &group.answers)?;
+    settle(node, crowd, &group.answers, &group.news)?;
     let count = group.count();
     match ending {
         Ending::More => Ok(count),

@@ -9,6 +9,7 @@ mod group;
 mod input;
 mod look;
 mod many;
+mod news;
 mod opening;
 mod peers;
 mod stop;

@@ -10,6 +10,7 @@ ghost use Rattle.ld_serve.specs.Many.{HasServedCrowd, HasStoppedCrowd};
 
 use crate::Stop;
 use crate::crowd::serve_crowd;
+use crate::news::note_opened;
 use crate::opening::open;
 use crate::whole::let_go;
 use ld_config::Config;
@@ -50,13 +51,15 @@ fn serve_many_on<D: Disk, G: Register, C: Crowd>(
         Ok(node) => node,
         Err((disk, stop)) => return (disk, Err(stop)),
     };
+    note_opened(&node, config, crowd);
     let served = serve_crowd(alloc, &mut node, crowd, turns);
     (node.into_disk(), served)
 }
 
 /// Opens the node of this number on its disk, as `serve` does, and serves a crowd, as `serve_crowd` does: several peers are
 /// there at once, and each frame that is taken, whoever sent it, is one step of the node, and its answers are said to the peer
-/// that sent it. Nobody has come to the crowd yet.
+/// that sent it. Nobody has come to the crowd yet. Before its first turn it is told that the node was formatted, where it was,
+/// and which logs the node had lost and has again.
 ///
 /// It refuses before the crowd is called as `open` does: `Disk`, `Damaged`, `Blank`, `Register`, `GenLimit`, `Full`,
 /// `NoMemory`. Then it stops as `serve_crowd` does: `Link`, `Disk`, `Full(Store)`, `NoMemory`, and, only where the disk doesn't
@@ -75,9 +78,10 @@ pub fn serve_many<D: Disk, G: Register, C: Crowd>(
     requires nobody { C.did crowd.old ≡ [] }
 
     // Of each peer what was read is the frames that were taken and then what is held of it, and what was said to it are the
-    // answers to these, in order, and nothing else. Where the disk tells bytes that represent a plain state, each frame, in the
-    // order over all peers, is one step of the node from that one, its answers are those of that step, and afterwards the disk
-    // represents the last plain state.
+    // answers to these, in order, and nothing else. Over any disk, whatever bytes it gives, the answers to each frame, in the
+    // order over all peers, are those of a step from the index, but for the bytes of payloads, and the index is then as after
+    // that step. Where the disk tells bytes that represent a plain state, each frame is one step of the node from that one, its
+    // answers are those of that step, and afterwards the disk represents the last plain state.
     ensures served { OnOk result (HasServedCrowd (D.seen disk.old) (D.may_leave disk.new) (G.holds reg.old) (G.holds reg.new) id (known_in config.now) format (C.did crowd.new) turns) }
 
     // The same holds of the frames taken before it stopped, and where it stopped there is cause to.

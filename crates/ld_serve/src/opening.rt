@@ -1,12 +1,13 @@
 // A node is opened: loaded from its disk, and formatted where that is blank.
 ghost use Rattle.std.specs.Prelude.{◌≡◌, ◌≢◌, ◌⊎◌, [], ℕ, List, Option, Some, IfOk, IfErr, IfSome, MatchResult, true, false};
 ghost use Rattle.ld_ids.specs.declared.set.Spec.{Spec as Fixed};
+ghost use Rattle.ld_layout.specs.declared.segment.Growth.TheVariants.{Wide};
 ghost use Rattle.ld_store.specs.Ops.{IfStands};
 ghost use Rattle.ld_store.specs.Loads.{LeftOrMarked};
 ghost use Rattle.ld_register.specs.Calls.{after_draw, ChangedOrNot};
 ghost use Rattle.ld_register.specs.declared.fault.RegisterFault.{RegisterFault as Refusal};
 ghost use Rattle.ld_register.specs.declared.fault.RegisterFault.TheVariants as refusals;
-ghost use Rattle.ld_node.specs.Node.{id_of, known_of, released_of, plain_of, disk_of, must_load, is_blank, Holds};
+ghost use Rattle.ld_node.specs.Node.{id_of, known_of, released_of, plain_of, disk_of, layout_of, must_load, is_blank, Holds};
 ghost use Rattle.ld_node.specs.Known.{known_in};
 ghost use Rattle.ld_serve.specs.Opening.{IsBlank, IsOpening, IsOpeningStop, ShowsSame, LeftByFormat, HoldsDrawOrNot, stop_of_load, stop_of_format};
 ghost use Rattle.ld_serve.specs.Stops.{DiskCounts, RegisterCounts};
@@ -82,7 +83,7 @@ fn format_stop(fault: NodeFault) -> Stop
 /// Opens the node of this number on its disk: the disk is loaded, which marks a store of the first version as one of the
 /// second, and where it is blank and `format` is asked for, it is formatted under a generation that the register draws
 /// for the node: that draw is all that changes there. Nothing is released yet. Without `format`, and where the disk isn't
-/// blank, the register isn't called. The room of each segment that the node begins grows with its Base.
+/// blank, the register isn't called. Each segment that the node begins is wide.
 ///
 /// A refusal hands the disk back: `Disk` where a call of it failed, `Damaged(Store, place)` as a node's load says,
 /// `Full(Store)` where a mark, or the segment that it needs, would make the store longer than 2^40 bytes, `Blank` where no
@@ -100,6 +101,7 @@ pub fn open<D: Disk, G: Register>(
 ) -> Result<Node<D>, (D, Stop)>
     ensures node { IfOk result (λ node. (id_of node ≡ id) × (known_of node ≡ known_in config.now) × (released_of node ≡ [])) }
     ensures works { IfOk result (λ node. (is_blank node ≡ false) × (must_load node ≡ false)) }
+    ensures wide { IfOk result (λ node. (layout_of node).grows ≡ Wide) }
     ensures opens { IfOk result (λ node. IfSome (D.seen disk) (IfStands (IsOpening (G.holds reg.old) (G.holds reg.new) id format (plain_of node)))) }
     ensures holds { IfOk result (λ node. IfSome (D.seen disk) (IfStands (λ _. Holds D.seen D.may_leave node))) }
     ensures cause { IfErr result (λ e. IsOpeningStop (D.faults disk) (D.faults e.0) (D.seen disk) (G.faults reg.old) (G.faults reg.new) (G.told reg.old) (G.holds reg.old) (G.damaged reg.old) id format e.1) }

@@ -10,7 +10,7 @@ ghost use Rattle.ld_serve.specs.Heard.{first_given, after_first, Heard, HeardUnt
 ghost use Rattle.ld_serve.specs.Serving.{State, state_of, after, answers, IsAt, IsCut};
 ghost use Rattle.ld_serve.specs.Stops.{IsLinkStop, IsServingStop, LinkCounts, DiskCounts};
 ghost use Rattle.ld_serve.specs.Talking.{Given};
-ghost use Rattle.ld_serve.specs.Told.{Serves, held_of, TellsMeeting, IsTold, IsToldUntil};
+ghost use Rattle.ld_serve.specs.Told.{Serves, held_of, memory_of, TellsMeeting, IsTold, IsToldUntil};
 
 use crate::Stop;
 use crate::turn::turn;
@@ -92,11 +92,12 @@ pub fn serve_peers<D: Disk, L: Link>(
 
     // The same of every link, as each tells its calls: each frame was read while no whole one was held, and the frames of its
     // answers were written, before the next read. Each peer but the present one was read to its end, when less than a frame
-    // was left. Fewer turns are taken only where the last call says that there is no next peer. Where the store holds what
-    // the disk tells, each frame is one step of the node.
+    // was left. Fewer turns are taken only where the last call says that there is no next peer. Over any disk, whatever bytes
+    // it gives, the answers to each frame are those of a step from the index, but for the bytes of payloads, and the index is
+    // then as after that step. Where the store holds what the disk tells, each frame is one step of the node.
     ensures told { MatchResult result
-        (λ _. IsTold (id_of node.old) (known_of node.old) (Holds D.seen D.may_leave node.old) (L.did link.old) (L.did link.new) (state_of node.old) (state_of node.new) turns)
-        (IsToldUntil (id_of node.old) (known_of node.old) (Holds D.seen D.may_leave node.old) (D.may_leave (disk_of node.new)) (L.did link.old) (L.did link.new) (state_of node.old) (state_of node.new) turns) }
+        (λ _. IsTold (id_of node.old) (known_of node.old) (Holds D.seen D.may_leave node.old) (L.did link.old) (L.did link.new) (state_of node.old) (state_of node.new) (memory_of node.old) (memory_of node.new) turns)
+        (IsToldUntil (id_of node.old) (known_of node.old) (Holds D.seen D.may_leave node.old) (D.may_leave (disk_of node.new)) (L.did link.old) (L.did link.new) (state_of node.old) (state_of node.new) (memory_of node.old) (memory_of node.new) turns) }
 
     // After the turns the disk represents the node's plain state.
     ensures holds { Holds D.seen D.may_leave node.old → OnOk result (Holds D.seen D.may_leave node.new) }

@@ -8,7 +8,7 @@ ghost use Rattle.ld_serve.specs.Course.{WithPeer, BetweenPeers, InTurn};
 ghost use Rattle.ld_serve.specs.Heard.{IsTurn};
 ghost use Rattle.ld_serve.specs.Serving.{State, state_of, after, answers, IsAt, IsCut};
 ghost use Rattle.ld_serve.specs.Stops.{IsNodeStop, IsServingStop, LinkCounts, DiskCounts};
-ghost use Rattle.ld_serve.specs.Told.{TellsTurn};
+ghost use Rattle.ld_serve.specs.Told.{memory_of, TellsTurn};
 
 use crate::answer::answer;
 use crate::input::next_frame;
@@ -66,7 +66,7 @@ pub(crate) fn turn<D: Disk, L: Link>(
         (BetweenPeers (after (id_of node.old) (known_of node.old)) (answers (id_of node.old) (known_of node.old)) start s (L.peers link.new) (state_of node.new) (turns + 1)))
         (λ stop. (last : State) × IsAt last stop node.new × InTurn (after (id_of node.old) (known_of node.old)) (answers (id_of node.old) (known_of node.old))
         (IsCut (id_of node.old) (known_of node.old) (D.may_leave (disk_of node.new)) stop) start s (L.peers link.new) last) }
-    ensures told { TellsTurn (id_of node.old) (known_of node.old) (Holds D.seen D.may_leave node.old) (D.may_leave (disk_of node.new)) (L.did link.old) (L.did link.new) decoder.old.bytes decoder.new.bytes (state_of node.old) (state_of node.new) result }
+    ensures told { TellsTurn (id_of node.old) (known_of node.old) (Holds D.seen D.may_leave node.old) (D.may_leave (disk_of node.new)) (L.did link.old) (L.did link.new) decoder.old.bytes decoder.new.bytes (state_of node.old) (state_of node.new) (memory_of node.old) (memory_of node.new) result }
     ensures holds { Holds D.seen D.may_leave node.old → OnOk result (Holds D.seen D.may_leave node.new) }
     ensures stops { IfErr result (IsServingStop (Holds D.seen D.may_leave node.old)) }
     ensures link_counts { MatchResult result (λ _. L.faults link.new ≡ L.faults link.old) (LinkCounts (L.faults link.old) (L.faults link.new)) }

@@ -79,7 +79,7 @@ fn serve_on<D: Disk, G: Register, L: Link>(
 ///
 /// What the answers say of the node's state, and their payloads, is exact where the disk tells what bytes it has, and they
 /// represent a plain state. Where it tells nothing, or bytes that a load takes though they represent none, the answers are
-/// messages that the node made of what its disk gave it, and of their content nothing is said.
+/// those of the steps from the index that the node loaded, but for the bytes of payloads, of which nothing is said.
 ///
 /// It refuses before the link is called as `open` does: `Disk`, `Damaged`, `Blank`, `Register`, `GenLimit`, `Full`,
 /// `NoMemory`. Then it stops as `serve_peers` does: `Link`, `BadFrame`, `Disk`, `Full(Store)`, `NoMemory`, and, only where
@@ -113,7 +113,9 @@ pub fn serve<D: Disk, G: Register, L: Link>(
 
     // The same of every link, as each tells its calls: each frame was read while no whole one was held, and the frames of its
     // answers were written, before the next read. Each peer but the present one was read to its end, when less than a frame
-    // was left. Fewer turns are taken only where the last call says that there is no next peer, or where it stopped.
+    // was left. Fewer turns are taken only where the last call says that there is no next peer, or where it stopped. Over any
+    // disk, whatever bytes it gives, the answers to each frame are those of a step from the index, but for the bytes of
+    // payloads, and the index is then as after that step.
     ensures told { MatchResult result
         (λ _. HasTold (D.seen disk.old) (D.may_leave disk.new) (G.holds reg.old) (G.holds reg.new) id (known_in config.now) format (L.did link.old) (L.did link.new) turns)
         (λ stop. IsNotOpened (D.faults disk.old) (D.faults disk.new) (D.seen disk.old) (D.seen disk.new) (D.may_leave disk.old) (D.may_leave disk.new)

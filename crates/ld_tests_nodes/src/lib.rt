@@ -4,6 +4,8 @@
 #[cfg(test)]
 mod host;
 #[cfg(test)]
+mod news;
+#[cfg(test)]
 mod node;
 #[cfg(test)]
 mod serve;

@@ -22,7 +22,7 @@ const ENDED: [u8; 40] = [
 ];
 
 /// The nodes 1 and 2, and log 1 on node 2.
-fn config(alloc: Global) -> Result<Config, NoMemory> {
+pub(crate) fn config(alloc: Global) -> Result<Config, NoMemory> {
     let (Some(one), Some(two), Some(log)) = (NodeId::new(1), NodeId::new(2), LogId::new(1)) else {
         return Err(NoMemory);
     };
@@ -40,7 +40,7 @@ fn config(alloc: Global) -> Result<Config, NoMemory> {
     })
 }
 
-fn new_disk(alloc: Global) -> Result<MemDisk, NoMemory> {
+pub(crate) fn new_disk(alloc: Global) -> Result<MemDisk, NoMemory> {
     match MemDisk::new(alloc) {
         Ok(disk) => Ok(disk),
         Err(_) => Err(NoMemory),

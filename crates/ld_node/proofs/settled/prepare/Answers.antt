@@ -6,6 +6,7 @@ use Rattle.ld_node.specs.declared.fault.NodeFault.TheVariants as nodes
 use Rattle.ld_node.proofs.Filled.{settled_op, settled_answer, none_past, passed_from}
 use Rattle.ld_store.proofs.Ahead.{told_bytes, told_inside}
 use Rattle.ld_node.proofs.Lengths.{answer_too}
+use Rattle.ld_node.proofs.ByIndex.{by_index}
 use Rattle.ld_node.proofs.settled.prepare.Goals as goal
 
 pub returns-clause-op : goal.returns-clause-op
@@ -54,3 +55,14 @@ returns-in_err-settled-clause-damaged_staged g c p place holds is =
 
 pub returns-in_err-replies-clause-ahead : goal.returns-in_err-replies-clause-ahead
 returns-in_err-replies-clause-ahead g c p holds = ⊎_elim (λ e. absurd (cc e)) (λ still. inr still) (c.in_ok-settled.ensures.ahead p holds)
+
+pub returns-clause-by_index : goal.returns-clause-by_index
+returns-clause-by_index g c =
+    by_index c.args.id c.args.known.now c.args.released.now.entries (index_of c.args.store.now) c.index.result.now.state c.args.msg.now c.in_ok-handled.handled _ _ _ c.index.ensures.state c.in_ok-handled.ensures.handled
+    c.in_ok-settled.ensures.some c.in_ok-settled.ensures.lengths c.in_ok-replies.ensures
+
+pub returns-clause-held_staged : goal.returns-clause-held_staged
+returns-clause-held_staged g c p holds = ⊎_elim (λ e. absurd (cc e)) (λ still. still) (c.in_ok-settled.ensures.ahead p holds)
+
+pub returns-clause-ahead : goal.returns-clause-ahead
+returns-clause-ahead g c p holds = ⊎_elim (λ e. absurd (cc e)) (λ still. inr still) (c.in_ok-settled.ensures.ahead p holds)

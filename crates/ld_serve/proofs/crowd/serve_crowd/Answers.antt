@@ -1,17 +1,19 @@
 use Rattle.std.proofs.Common.{◌≡◌, ◌≤◌, ◌+◌, ◌-◌, ◌^◌, ◌∙◌, ℕ, length, true, subst, refl, arith}
 use Rattle.std.proofs.lemmas.Result.{err_from_is_err_and}
 use Rattle.ld_crowd.specs.Calls.{is_over}
-use Rattle.ld_node.specs.Node.{disk_of}
+use Rattle.ld_node.specs.Node.{id_of, known_of, disk_of}
 use Rattle.ld_serve.specs.Serving.{state_of}
 use Rattle.ld_serve.specs.Stops.{LinkCounts, DiskCounts}
 use Rattle.ld_serve.specs.Chats.{held_in}
+use Rattle.ld_serve.specs.Told.{memory_of}
+use Rattle.ld_serve.specs.Crowd.{AreTaken}
 use Rattle.ld_serve.proofs.Crowds.{so_first, so_next, halts_where, heard_all, served_all, heard_until, served_until, all_turns, until_over, asked_out}
 use Rattle.ld_serve.proofs.CrowdStops.{crowd_where}
 use Rattle.ld_serve.proofs.crowd.serve_crowd.Goals as goal
 
 pub looks-init : goal.looks-init
 looks-init g c = record {
-  so = so_first _ _ _ _ _ _ c.requires.nobody c.new-chats.ensures;
+  so = so_first _ _ _ _ _ _ (AreTaken (id_of c.args.node.now) (known_of c.args.node.now) (memory_of c.args.node.now) (memory_of c.args.node.now)) refl c.requires.nobody c.new-chats.ensures;
   few = omega arith;
   asked = omega arith;
   holds = λ held. held;
@@ -33,7 +35,7 @@ pub looks-preserved : goal.looks-preserved
 looks-preserved g c =
     let on = rw c.in-Some.is at c.in_ok-count.ensures.on in
     let few = rw c.in-Some.is at c.in_ok-count.ensures.few in
-    let so = so_next _ _ _ _ _ _ c.looks.invariant.id c.looks.invariant.known c.looks.invariant.holds _ (g.C.Crowd.did c.go.new.crowd) (held_in c.looks.chats.chats) (held_in c.go.new.chats.chats) (state_of c.args.node.now) (state_of c.looks.node) (state_of c.go.new.node) c.looks.taken c.in-Some.count c.looks.invariant.so on in
+    let so = so_next _ _ _ _ _ _ c.looks.invariant.id c.looks.invariant.known c.looks.invariant.holds _ (g.C.Crowd.did c.go.new.crowd) (held_in c.looks.chats.chats) (held_in c.go.new.chats.chats) (state_of c.args.node.now) (state_of c.looks.node) (state_of c.go.new.node) (memory_of c.args.node.now) (memory_of c.looks.node) (memory_of c.go.new.node) c.looks.taken c.in-Some.count c.looks.invariant.so on in
     record {
       so = so;
       few = omega (arith, few, c.if-taken-turns.false);
@@ -51,13 +53,13 @@ looks-preserved g c =
 pub returns-then-taken-turns-clause-heard : goal.returns-then-taken-turns-clause-heard
 returns-then-taken-turns-clause-heard g c =
     let all : c.looks.taken ≡ c.args.turns = omega (arith, c.looks.invariant.few, c.if-taken-turns.true) in
-    heard_all _ _ _ (g.C.Crowd.did c.looks.crowd) (held_in c.looks.chats.chats) (state_of c.args.node.now) (state_of c.looks.node) c.looks.taken c.args.turns c.looks.invariant.so (all_turns (g.C.Crowd.did c.looks.crowd) c.looks.invariant.so.taken c.looks.taken c.args.turns c.looks.invariant.so.turns_are all)
+    heard_all _ _ _ _ _ (memory_of c.args.node.now) (memory_of c.looks.node) (g.C.Crowd.did c.looks.crowd) (held_in c.looks.chats.chats) (state_of c.args.node.now) (state_of c.looks.node) c.looks.taken c.args.turns c.looks.invariant.so (all_turns (g.C.Crowd.did c.looks.crowd) c.looks.invariant.so.taken c.looks.taken c.args.turns c.looks.invariant.so.turns_are all)
 
 pub returns-then-taken-turns-clause-served : goal.returns-then-taken-turns-clause-served
 returns-then-taken-turns-clause-served g c =
     λ held.
     let all : c.looks.taken ≡ c.args.turns = omega (arith, c.looks.invariant.few, c.if-taken-turns.true) in
-    served_all _ _ _ (g.C.Crowd.did c.looks.crowd) (held_in c.looks.chats.chats) (state_of c.args.node.now) (state_of c.looks.node) c.looks.taken c.args.turns c.looks.invariant.so (all_turns (g.C.Crowd.did c.looks.crowd) c.looks.invariant.so.taken c.looks.taken c.args.turns c.looks.invariant.so.turns_are all) held
+    served_all _ _ _ (g.C.Crowd.did c.looks.crowd) (held_in c.looks.chats.chats) (state_of c.args.node.now) (state_of c.looks.node) _ c.looks.taken c.args.turns c.looks.invariant.so (all_turns (g.C.Crowd.did c.looks.crowd) c.looks.invariant.so.taken c.looks.taken c.args.turns c.looks.invariant.so.turns_are all) held
 
 pub returns-then-taken-turns-clause-holds : goal.returns-then-taken-turns-clause-holds
 returns-then-taken-turns-clause-holds g c = c.looks.invariant.holds
@@ -79,18 +81,18 @@ returns-then-taken-turns-clause-disk_counts g c = c.looks.invariant.disk
 
 pub returns-in_err-count-clause-heard_until : goal.returns-in_err-count-clause-heard_until
 returns-in_err-count-clause-heard_until g c =
-    let h = halts_where _ _ _ _ _ _ c.looks.invariant.id c.looks.invariant.known c.looks.invariant.holds _ (g.C.Crowd.did c.looks.crowd) (g.C.Crowd.did c.go.new.crowd) (held_in c.looks.chats.chats) (state_of c.looks.node) (state_of c.go.new.node) (c.args.turns - c.looks.taken) c.in_err-count.field-0.0 c.in_err-count.ensures.off in
+    let h = halts_where _ _ _ _ _ _ c.looks.invariant.id c.looks.invariant.known c.looks.invariant.holds _ (g.C.Crowd.did c.looks.crowd) (g.C.Crowd.did c.go.new.crowd) (held_in c.looks.chats.chats) (state_of c.looks.node) (state_of c.go.new.node) (memory_of c.looks.node) (c.args.turns - c.looks.taken) c.in_err-count.field-0.0 c.in_err-count.ensures.off in
     let p = err_from_is_err_and c.from_residual.result c.from_residual.ensures.1 in
     let few : c.looks.taken + (c.args.turns - c.looks.taken) ≤ c.args.turns = omega (arith, c.if-taken-turns.false) in
-    rw p.1 (heard_until _ _ _ _ _ (g.C.Crowd.did c.looks.crowd) (g.C.Crowd.did c.go.new.crowd) (held_in c.looks.chats.chats) (state_of c.args.node.now) (state_of c.looks.node) (state_of c.go.new.node) c.looks.taken (c.args.turns - c.looks.taken) c.args.turns c.looks.invariant.so few h)
+    rw p.1 (heard_until _ _ _ _ _ (g.C.Crowd.did c.looks.crowd) (g.C.Crowd.did c.go.new.crowd) (held_in c.looks.chats.chats) (state_of c.args.node.now) (state_of c.looks.node) (state_of c.go.new.node) (memory_of c.args.node.now) (memory_of c.looks.node) c.looks.taken (c.args.turns - c.looks.taken) c.args.turns c.looks.invariant.so few h)
 
 pub returns-in_err-count-clause-stopped : goal.returns-in_err-count-clause-stopped
 returns-in_err-count-clause-stopped g c =
     λ held.
-    let h = halts_where _ _ _ _ _ _ c.looks.invariant.id c.looks.invariant.known c.looks.invariant.holds _ (g.C.Crowd.did c.looks.crowd) (g.C.Crowd.did c.go.new.crowd) (held_in c.looks.chats.chats) (state_of c.looks.node) (state_of c.go.new.node) (c.args.turns - c.looks.taken) c.in_err-count.field-0.0 c.in_err-count.ensures.off in
+    let h = halts_where _ _ _ _ _ _ c.looks.invariant.id c.looks.invariant.known c.looks.invariant.holds _ (g.C.Crowd.did c.looks.crowd) (g.C.Crowd.did c.go.new.crowd) (held_in c.looks.chats.chats) (state_of c.looks.node) (state_of c.go.new.node) (memory_of c.looks.node) (c.args.turns - c.looks.taken) c.in_err-count.field-0.0 c.in_err-count.ensures.off in
     let p = err_from_is_err_and c.from_residual.result c.from_residual.ensures.1 in
     let few : c.looks.taken + (c.args.turns - c.looks.taken) ≤ c.args.turns = omega (arith, c.if-taken-turns.false) in
-    rw (p.1, p.2) (served_until _ _ _ _ _ (g.C.Crowd.did c.looks.crowd) (g.C.Crowd.did c.go.new.crowd) (held_in c.looks.chats.chats) (state_of c.args.node.now) (state_of c.looks.node) (state_of c.go.new.node) c.looks.taken (c.args.turns - c.looks.taken) c.args.turns c.looks.invariant.so few h held)
+    rw (p.1, p.2) (served_until _ _ _ _ _ (g.C.Crowd.did c.looks.crowd) (g.C.Crowd.did c.go.new.crowd) (held_in c.looks.chats.chats) (state_of c.args.node.now) (state_of c.looks.node) (state_of c.go.new.node) _ (memory_of c.looks.node) c.looks.taken (c.args.turns - c.looks.taken) c.args.turns c.looks.invariant.so few h held)
 
 pub returns-in_err-count-clause-rest : goal.returns-in_err-count-clause-rest
 returns-in_err-count-clause-rest g c = (c.in_err-count.ensures.rest.0 ∙ c.looks.invariant.id, c.in_err-count.ensures.rest.1 ∙ c.looks.invariant.known, c.in_err-count.ensures.rest.2)
@@ -116,20 +118,20 @@ returns-in_err-count-clause-disk_counts g c =
 pub returns-in-None-clause-heard : goal.returns-in-None-clause-heard
 returns-in-None-clause-heard g c =
     let on = rw c.in-None.is at c.in_ok-count.ensures.on in
-    let so = so_next _ _ _ _ _ _ c.looks.invariant.id c.looks.invariant.known c.looks.invariant.holds _ (g.C.Crowd.did c.go.new.crowd) (held_in c.looks.chats.chats) (held_in c.go.new.chats.chats) (state_of c.args.node.now) (state_of c.looks.node) (state_of c.go.new.node) c.looks.taken 0 c.looks.invariant.so on in
+    let so = so_next _ _ _ _ _ _ c.looks.invariant.id c.looks.invariant.known c.looks.invariant.holds _ (g.C.Crowd.did c.go.new.crowd) (held_in c.looks.chats.chats) (held_in c.go.new.chats.chats) (state_of c.args.node.now) (state_of c.looks.node) (state_of c.go.new.node) (memory_of c.args.node.now) (memory_of c.looks.node) (memory_of c.go.new.node) c.looks.taken 0 c.looks.invariant.so on in
     let over : is_over (g.C.Crowd.did c.go.new.crowd) ≡ true = c.in_ok-count.ensures.over c.in-None.is in
     let few : c.looks.taken + 0 ≤ c.args.turns = omega (arith, c.looks.invariant.few) in
-    heard_all _ _ _ (g.C.Crowd.did c.go.new.crowd) (held_in c.go.new.chats.chats) (state_of c.args.node.now) (state_of c.go.new.node) _ c.args.turns so
+    heard_all _ _ _ _ _ (memory_of c.args.node.now) (memory_of c.go.new.node) (g.C.Crowd.did c.go.new.crowd) (held_in c.go.new.chats.chats) (state_of c.args.node.now) (state_of c.go.new.node) _ c.args.turns so
     (until_over (g.C.Crowd.did c.go.new.crowd) so.taken _ c.args.turns so.turns_are few over)
 
 pub returns-in-None-clause-served : goal.returns-in-None-clause-served
 returns-in-None-clause-served g c =
     λ held.
     let on = rw c.in-None.is at c.in_ok-count.ensures.on in
-    let so = so_next _ _ _ _ _ _ c.looks.invariant.id c.looks.invariant.known c.looks.invariant.holds _ (g.C.Crowd.did c.go.new.crowd) (held_in c.looks.chats.chats) (held_in c.go.new.chats.chats) (state_of c.args.node.now) (state_of c.looks.node) (state_of c.go.new.node) c.looks.taken 0 c.looks.invariant.so on in
+    let so = so_next _ _ _ _ _ _ c.looks.invariant.id c.looks.invariant.known c.looks.invariant.holds _ (g.C.Crowd.did c.go.new.crowd) (held_in c.looks.chats.chats) (held_in c.go.new.chats.chats) (state_of c.args.node.now) (state_of c.looks.node) (state_of c.go.new.node) (memory_of c.args.node.now) (memory_of c.looks.node) (memory_of c.go.new.node) c.looks.taken 0 c.looks.invariant.so on in
     let over : is_over (g.C.Crowd.did c.go.new.crowd) ≡ true = c.in_ok-count.ensures.over c.in-None.is in
     let few : c.looks.taken + 0 ≤ c.args.turns = omega (arith, c.looks.invariant.few) in
-    served_all _ _ _ (g.C.Crowd.did c.go.new.crowd) (held_in c.go.new.chats.chats) (state_of c.args.node.now) (state_of c.go.new.node) _ c.args.turns so
+    served_all _ _ _ (g.C.Crowd.did c.go.new.crowd) (held_in c.go.new.chats.chats) (state_of c.args.node.now) (state_of c.go.new.node) _ _ c.args.turns so
     (until_over (g.C.Crowd.did c.go.new.crowd) so.taken _ c.args.turns so.turns_are few over) held
 
 pub returns-in-None-clause-holds : goal.returns-in-None-clause-holds
@@ -153,13 +155,13 @@ returns-in-None-clause-disk_counts g c = c.in_ok-count.ensures.disk_counts ∙ c
 pub returns-clause-heard : goal.returns-clause-heard
 returns-clause-heard g c =
     let many : 2 ^ 64 - 1 ≤ length (g.C.Crowd.did c.looks.crowd) = omega (arith, c.looks.invariant.asked, c.looks-test.false, c.looks.auto.counter-end) in
-    heard_all _ _ _ (g.C.Crowd.did c.looks.crowd) (held_in c.looks.chats.chats) (state_of c.args.node.now) (state_of c.looks.node) c.looks.taken c.args.turns c.looks.invariant.so (asked_out (g.C.Crowd.did c.looks.crowd) c.looks.invariant.so.taken c.looks.taken c.args.turns c.looks.invariant.so.turns_are c.looks.invariant.few many)
+    heard_all _ _ _ _ _ (memory_of c.args.node.now) (memory_of c.looks.node) (g.C.Crowd.did c.looks.crowd) (held_in c.looks.chats.chats) (state_of c.args.node.now) (state_of c.looks.node) c.looks.taken c.args.turns c.looks.invariant.so (asked_out (g.C.Crowd.did c.looks.crowd) c.looks.invariant.so.taken c.looks.taken c.args.turns c.looks.invariant.so.turns_are c.looks.invariant.few many)
 
 pub returns-clause-served : goal.returns-clause-served
 returns-clause-served g c =
     λ held.
     let many : 2 ^ 64 - 1 ≤ length (g.C.Crowd.did c.looks.crowd) = omega (arith, c.looks.invariant.asked, c.looks-test.false, c.looks.auto.counter-end) in
-    served_all _ _ _ (g.C.Crowd.did c.looks.crowd) (held_in c.looks.chats.chats) (state_of c.args.node.now) (state_of c.looks.node) c.looks.taken c.args.turns c.looks.invariant.so (asked_out (g.C.Crowd.did c.looks.crowd) c.looks.invariant.so.taken c.looks.taken c.args.turns c.looks.invariant.so.turns_are c.looks.invariant.few many) held
+    served_all _ _ _ (g.C.Crowd.did c.looks.crowd) (held_in c.looks.chats.chats) (state_of c.args.node.now) (state_of c.looks.node) _ c.looks.taken c.args.turns c.looks.invariant.so (asked_out (g.C.Crowd.did c.looks.crowd) c.looks.invariant.so.taken c.looks.taken c.args.turns c.looks.invariant.so.turns_are c.looks.invariant.few many) held
 
 pub returns-clause-holds : goal.returns-clause-holds
 returns-clause-holds g c = c.looks.invariant.holds

@@ -16,13 +16,13 @@ pub returns-in_default-clause-on : goal.returns-in_default-clause-on
 returns-in_default-clause-on g c =
     let now : Held = held_in c.args.chats.now.chats in
     let then : Held = held_in c.next.new.self.chats in
-    none_taken _ _ _ _ _ now then _ 0 (λ ts x. alike frame_of frames_of IsLess BeginsNone _ ts now then c.in_default.ensures.next x) (λ ts. omega arith)
+    none_taken _ _ _ _ refl _ _ now then _ 0 (λ ts x. alike frame_of frames_of IsLess BeginsNone _ ts now then c.in_default.ensures.next x) (λ ts. omega arith)
 
 pub returns-then-is_full-clause-on : goal.returns-then-is_full-clause-on
-returns-then-is_full-clause-on g c = aside_on _ _ _ _ (held_in c.args.chats.now.chats) (held_in c.next.new.self.chats) _ c.in-Some.peer c.in-Some.decoder.bytes _ c.set_aside.result c.in-Some.ensures.next c.set_aside.ensures.kept
+returns-then-is_full-clause-on g c = aside_on _ _ _ _ refl _ (held_in c.args.chats.now.chats) (held_in c.next.new.self.chats) _ c.in-Some.peer c.in-Some.decoder.bytes _ c.set_aside.result c.in-Some.ensures.next c.set_aside.ensures.kept
 
 pub returns-then-is_full-clause-off : goal.returns-then-is_full-clause-off
-returns-then-is_full-clause-off g c = aside_off _ _ _ _ _ _ _ _ c.set_aside.result c.set_aside.ensures.stops (λ held. stand g.D.Disk.seen g.D.Disk.may_leave c.args.node.now (plain_of c.args.node.now) refl held)
+returns-then-is_full-clause-off g c = aside_off _ _ _ _ _ _ _ _ _ c.set_aside.result c.set_aside.ensures.stops (λ held. stand g.D.Disk.seen g.D.Disk.may_leave c.args.node.now (plain_of c.args.node.now) refl held)
 
 pub returns-then-is_full-clause-works : goal.returns-then-is_full-clause-works
 returns-then-is_full-clause-works g c = either_way _ c.set_aside.result c.requires.works
@@ -42,12 +42,12 @@ returns-then-is_full-clause-disk_counts g c = aside_disk c.set_aside.result _ c.
 pub returns-clause-on : goal.returns-clause-on
 returns-clause-on g c =
     let mid : Held = held_in c.next.new.self.chats in
-    advances_from _ _ _ _ _ (held_in c.args.chats.now.chats) (put c.in-Some.peer (Some c.in-Some.decoder.bytes) mid) _ _ _ c.serve_peer.result c.in-Some.ensures.next c.serve_peer.ensures.on
+    advances_from _ _ _ _ _ _ (held_in c.args.chats.now.chats) (put c.in-Some.peer (Some c.in-Some.decoder.bytes) mid) _ _ _ c.serve_peer.result c.in-Some.ensures.next c.serve_peer.ensures.on
 
 pub returns-clause-off : goal.returns-clause-off
 returns-clause-off g c =
     let mid : Held = held_in c.next.new.self.chats in
-    halts_from _ _ _ _ _ _ _ (held_in c.args.chats.now.chats) (put c.in-Some.peer (Some c.in-Some.decoder.bytes) mid) _ _ c.serve_peer.result c.in-Some.ensures.next c.serve_peer.ensures.off
+    halts_from _ _ _ _ _ _ _ _ (held_in c.args.chats.now.chats) (put c.in-Some.peer (Some c.in-Some.decoder.bytes) mid) _ _ c.serve_peer.result c.in-Some.ensures.next c.serve_peer.ensures.off
 
 pub returns-clause-len : goal.returns-clause-len
 returns-clause-len g c = c.serve_peer.ensures.len

@@ -17,14 +17,14 @@ pub returns-in-Ok-Some-clause-on : goal.returns-in-Ok-Some-clause-on
 returns-in-Ok-Some-clause-on g c =
     let frame = rw c.in-Ok-Some.field-0-is at c.in-Ok-Some.ensures.frame in
     let mid : (q : ℕ) → Option (List ℕ) = held_in c.args.chats.now.chats in
-    advances_from _ _ _ _ _ _ (put c.args.peer (Some (frame_of c.in-Ok-Some.message ++ c.take.new.self.bytes)) mid) _ _ _ c.serve_group.result
+    advances_from _ _ _ _ _ _ _ (put c.args.peer (Some (frame_of c.in-Ok-Some.message ++ c.take.new.self.bytes)) mid) _ _ _ c.serve_group.result
     (λ q. ap (λ (b : List ℕ). put c.args.peer (Some b) mid q) frame) c.serve_group.ensures.on
 
 pub returns-in-Ok-Some-clause-off : goal.returns-in-Ok-Some-clause-off
 returns-in-Ok-Some-clause-off g c =
     let frame = rw c.in-Ok-Some.field-0-is at c.in-Ok-Some.ensures.frame in
     let mid : (q : ℕ) → Option (List ℕ) = held_in c.args.chats.now.chats in
-    halts_from _ _ _ _ _ _ _ _ (put c.args.peer (Some (frame_of c.in-Ok-Some.message ++ c.take.new.self.bytes)) mid) _ _ c.serve_group.result
+    halts_from _ _ _ _ _ _ _ _ _ (put c.args.peer (Some (frame_of c.in-Ok-Some.message ++ c.take.new.self.bytes)) mid) _ _ c.serve_group.result
     (λ q. ap (λ (b : List ℕ). put c.args.peer (Some b) mid q) frame) c.serve_group.ensures.off
 
 pub returns-in-Ok-Some-clause-asked : goal.returns-in-Ok-Some-clause-asked
@@ -66,16 +66,16 @@ returns-in-Ok-None-clause-on g c =
     let none = rw c.in-Ok-None.field-0-is at c.in-Ok-None.ensures.none in
     let mid : (q : ℕ) → Option (List ℕ) = held_in c.args.chats.now.chats in
     let now : (q : ℕ) → Option (List ℕ) = put c.args.peer (Some c.take.new.self.bytes) mid in
-    advances_from _ _ _ _ _ _ now _ _ _ c.hear.result (λ q. ap (λ (d : Held). put c.args.peer (Some d.bytes) mid q) (sym none.1))
-    (heard_on _ _ _ _ _ now _ _ c.hear.result c.hear.ensures.serving c.hear.ensures.turns)
+    advances_from _ _ _ _ _ _ _ now _ _ _ c.hear.result (λ q. ap (λ (d : Held). put c.args.peer (Some d.bytes) mid q) (sym none.1))
+    (heard_on _ _ _ _ refl _ _ now _ _ c.hear.result c.hear.ensures.serving c.hear.ensures.turns)
 
 pub returns-in-Ok-None-clause-off : goal.returns-in-Ok-None-clause-off
 returns-in-Ok-None-clause-off g c =
     let none = rw c.in-Ok-None.field-0-is at c.in-Ok-None.ensures.none in
     let mid : (q : ℕ) → Option (List ℕ) = held_in c.args.chats.now.chats in
     let now : (q : ℕ) → Option (List ℕ) = put c.args.peer (Some c.take.new.self.bytes) mid in
-    halts_from _ _ _ _ _ _ _ _ now _ _ c.hear.result (λ q. ap (λ (d : Held). put c.args.peer (Some d.bytes) mid q) (sym none.1))
-    (heard_off _ _ _ _ _ _ _ now _ c.hear.result _ c.hear.ensures.serving c.hear.ensures.turns c.hear.ensures.stops (λ held. stand g.D.Disk.seen g.D.Disk.may_leave c.args.node.now (plain_of c.args.node.now) refl held))
+    halts_from _ _ _ _ _ _ _ _ _ now _ _ c.hear.result (λ q. ap (λ (d : Held). put c.args.peer (Some d.bytes) mid q) (sym none.1))
+    (heard_off _ _ _ _ _ _ _ _ now _ c.hear.result _ c.hear.ensures.serving c.hear.ensures.turns c.hear.ensures.stops (λ held. stand g.D.Disk.seen g.D.Disk.may_leave c.args.node.now (plain_of c.args.node.now) refl held))
 
 pub returns-in-Ok-None-clause-works : goal.returns-in-Ok-None-clause-works
 returns-in-Ok-None-clause-works g c = either_way _ c.hear.result c.requires.works
@@ -94,11 +94,11 @@ returns-in-Ok-None-clause-disk_counts g c = heard_disk c.hear.result _ c.hear.en
 
 pub returns-in-Err-clause-on : goal.returns-in-Err-clause-on
 returns-in-Err-clause-on g c =
-    refused_on _ _ _ _ _ c.args.peer c.args.decoder.bytes (held_in c.args.chats.now.chats) _ c.in-Err.fault c.refuse.result c.requires.gone
+    refused_on _ _ _ _ refl _ _ c.args.peer c.args.decoder.bytes (held_in c.args.chats.now.chats) _ c.in-Err.fault c.refuse.result c.requires.gone
     (subst (λ (o : Option WireFault). IsRefused (answer_with o c.args.decoder.bytes) c.in-Err.fault) c.requires.fine c.in-Err.ensures.fault.0) c.refuse.ensures.off
 
 pub returns-in-Err-clause-off : goal.returns-in-Err-clause-off
-returns-in-Err-clause-off g c = refused_off _ _ _ _ _ _ _ _ _ c.refuse.result c.refuse.ensures.stops (λ held. stand g.D.Disk.seen g.D.Disk.may_leave c.args.node.now (plain_of c.args.node.now) refl held)
+returns-in-Err-clause-off g c = refused_off _ _ _ _ _ _ _ _ _ _ c.refuse.result c.refuse.ensures.stops (λ held. stand g.D.Disk.seen g.D.Disk.may_leave c.args.node.now (plain_of c.args.node.now) refl held)
 
 pub returns-in-Err-clause-asked : goal.returns-in-Err-clause-asked
 returns-in-Err-clause-asked g c = refused_asked _ _ _ c.args.peer c.refuse.result c.refuse.ensures.off c.refuse.ensures.stops

@@ -4,6 +4,7 @@ use Rattle.ld_node.specs.Known.{Known}
 use Rattle.ld_node.specs.Node.{id_of, known_of, disk_of, plain_of, Holds}
 use Rattle.ld_serve.specs.Course.{Goes, WithPeer, InTurn}
 use Rattle.ld_serve.specs.Serving.{State, after, answers, state_of, IsAt, IsCut}
+use Rattle.ld_serve.specs.Told.{memory_of}
 use Rattle.ld_serve.proofs.Courses.{begun}
 use Rattle.ld_serve.proofs.Hearing.{none_yet, came, one_more, all_heard, none_left, stopped_between, stopped_within}
 use Rattle.ld_serve.proofs.Serving.{stand}
@@ -15,7 +16,7 @@ pub turns-init : goal.turns-init
 turns-init g c = record {
   heard = none_yet _ _;
   goes = λ start is held. begun _ _ start _ _ is;
-  told = none_told _ _ _ _ _;
+  told = none_told _ _ _ _ _ _;
   holds = λ held. held;
   fine = ap (λ h. h.fault) c.new-decoder.ensures;
   id = refl;
@@ -113,9 +114,9 @@ turns-preserved g c =
           let rest = c.turn.new.decoder.bytes in
           let there = c.in_ok-is_there.is_there in
           let next = state_of c.turn.new.node in
-          let one = turn_of (id_of node) (id_of old) (known_of node) (known_of old) now left did new held rest (state_of node) next (Ok there) so.id so.known turned.told in
-          let so_far = met_told (id_of old) (known_of old) was first did s (state_of node) c.turns.counter so.told.taken so.told.steps held (rw c.if-not-branch.false at met) in
-          turn_told (id_of old) (known_of old) was now so.holds left first did new held rest s (state_of node) next c.turns.counter there so_far one;
+          let one = turn_of (id_of node) (id_of old) (known_of node) (known_of old) now left did new held rest (state_of node) next (memory_of node) (memory_of c.turn.new.node) (Ok there) so.id so.known turned.told in
+          let so_far = met_told (id_of old) (known_of old) was first did s (state_of node) (memory_of old) (memory_of node) c.turns.counter so.told.taken so.told.by_index so.told.steps held (rw c.if-not-branch.false at met) in
+          turn_told (id_of old) (known_of old) was now so.holds left first did new held rest s (state_of node) next (memory_of old) (memory_of node) (memory_of c.turn.new.node) c.turns.counter there so_far one;
       holds = λ held. turned.holds (so.holds held);
       fine = turned.fine;
       id = turned.rest.0 ∙ so.id;
@@ -154,7 +155,7 @@ returns-in_err-meet-clause-told g c =
     let p = err_from_is_err_and c.from_residual.result c.from_residual.ensures.1 in
     let so = c.turns.invariant in
     let node = c.turns.node in
-    rw (p.1, p.2) (between_told _ _ _ _ _ _ (state_of node) c.turns.counter so.told.taken so.told.steps (g.D.Disk.may_leave (disk_of node)) c.meet.new.decoder.bytes c.args.turns _
+    rw (p.1, p.2) (between_told _ _ _ _ _ _ (state_of node) (memory_of c.args.node.now) (memory_of node) c.turns.counter so.told.taken so.told.by_index so.told.steps (g.D.Disk.may_leave (disk_of node)) c.meet.new.decoder.bytes c.args.turns _
     (omega (arith, c.turns-test.true)) (c.in_err-meet.ensures.told _ so.told.taken c.turns.counter so.told.calls) c.in_err-meet.ensures.stops
     (λ held. stand g.D.Disk.seen g.D.Disk.may_leave node (plain_of node) refl (so.holds held)))
 
@@ -162,7 +163,7 @@ pub returns-then-not-branch-clause-told : goal.returns-then-not-branch-clause-to
 returns-then-not-branch-clause-told g c =
     let so = c.turns.invariant in
     let met = c.in_ok-meet.ensures.told _ so.told.taken c.turns.counter so.told.calls in
-    none_left_told _ _ _ _ _ _ (state_of c.turns.node) c.turns.counter so.told.taken so.told.steps c.meet.new.decoder.bytes c.args.turns (omega (arith, c.turns-test.true)) (rw c.if-not-branch.true at met)
+    none_left_told _ _ _ _ _ _ (state_of c.turns.node) (memory_of c.args.node.now) (memory_of c.turns.node) c.turns.counter so.told.taken so.told.by_index so.told.steps c.meet.new.decoder.bytes c.args.turns (omega (arith, c.turns-test.true)) (rw c.if-not-branch.true at met)
 
 pub returns-in_err-is_there-clause-told : goal.returns-in_err-is_there-clause-told
 returns-in_err-is_there-clause-told g c =
@@ -182,12 +183,12 @@ returns-in_err-is_there-clause-told g c =
     let stop = c.in_err-is_there.field-0.0 in
     let next = state_of c.turn.new.node in
     let met = c.in_ok-meet.ensures.told _ so.told.taken c.turns.counter so.told.calls in
-    let so_far = met_told (id_of old) (known_of old) was first did s (state_of node) c.turns.counter so.told.taken so.told.steps held (rw c.if-not-branch.false at met) in
-    let one = turn_of (id_of node) (id_of old) (known_of node) (known_of old) now left did new held rest (state_of node) next (Err stop) so.id so.known c.in_err-is_there.ensures.told in
-    rw (p.1, p.2) (turn_stopped (id_of old) (known_of old) was now so.holds left first did new held rest s (state_of node) next c.turns.counter c.args.turns stop (omega (arith, c.turns-test.true)) so_far one)
+    let so_far = met_told (id_of old) (known_of old) was first did s (state_of node) (memory_of old) (memory_of node) c.turns.counter so.told.taken so.told.by_index so.told.steps held (rw c.if-not-branch.false at met) in
+    let one = turn_of (id_of node) (id_of old) (known_of node) (known_of old) now left did new held rest (state_of node) next (memory_of node) (memory_of c.turn.new.node) (Err stop) so.id so.known c.in_err-is_there.ensures.told in
+    rw (p.1, p.2) (turn_stopped (id_of old) (known_of old) was now so.holds left first did new held rest s (state_of node) next (memory_of old) (memory_of node) (memory_of c.turn.new.node) c.turns.counter c.args.turns stop (omega (arith, c.turns-test.true)) so_far one)
 
 pub returns-clause-told : goal.returns-clause-told
 returns-clause-told g c =
     let all : c.turns.counter ≡ c.args.turns = omega (arith, c.turns-test.false, c.turns.auto.counter-end) in
     let so = c.turns.invariant.told in
-    all_told _ _ _ _ _ _ (state_of c.turns.node) c.turns.counter so.taken so.steps _ c.args.turns all so.calls
+    all_told _ _ _ _ _ _ (state_of c.turns.node) (memory_of c.args.node.now) (memory_of c.turns.node) c.turns.counter so.taken so.by_index so.steps _ c.args.turns all so.calls

@@ -9,7 +9,8 @@ use Rattle.ld_serve.proofs.Serving.{state_is, state_stays, stand, past_limit, le
 use Rattle.ld_serve.proofs.Stops.{unread_serving, unread_counts, node_serving, node_held, unsent_serving, unsent_counts}
 use Rattle.ld_serve.proofs.Courses.{unheard, ended_turn, refused, cut_short, framed_turn}
 use Rattle.ld_serve.proofs.Frames.{are_messages}
-use Rattle.ld_serve.specs.Told.{Reading, Refusing, Answering, Stops}
+use Rattle.ld_serve.specs.Told.{Reading, Refusing, Answering, Stops, memory_of}
+use Rattle.ld_serve.proofs.Telling.{index_step}
 use Rattle.ld_serve.proofs.turn.turn.Goals as goal
 
 pub returns-in_err-message-clause-heard : goal.returns-in_err-message-clause-heard
@@ -151,11 +152,12 @@ returns-in_err-message-clause-told g c =
     rw (p.1, p.2) (record {
       halt = Reading some.held;
       last = Stops.reading _ _ some.held some.reads some.cause;
+      by_index = refl;
       exact = λ holds. (record { its = tt; cut = (some.cause, stand g.D.Disk.seen g.D.Disk.may_leave node (plain_of node) refl holds) }, inr refl);
     })
 
 pub returns-in_default-clause-told : goal.returns-in_default-clause-told
-returns-in_default-clause-told g c = record { rest = c.next_frame.new.decoder.bytes; reads = rw c.in_default.is at c.in_ok-message.ensures.waiting; same = λ _. refl }
+returns-in_default-clause-told g c = record { rest = c.next_frame.new.decoder.bytes; reads = rw c.in_default.is at c.in_ok-message.ensures.waiting; stays = refl; same = λ _. refl }
 
 pub returns-in-Err-clause-told : goal.returns-in-Err-clause-told
 returns-in-Err-clause-told g c =
@@ -166,6 +168,7 @@ returns-in-Err-clause-told g c =
     record {
       halt = Refusing c.in-Some.message;
       last = Stops.refusing _ _ c.next_frame.new.decoder.bytes c.in-Some.message reads is c.stop_of.ensures.cause;
+      by_index = (λ i. record { layout = c.in-Err.ensures.refused.1 i; released = c.in-Err.ensures.refused.3 i });
       exact = λ holds. (
         record {
           its = tt;
@@ -192,6 +195,7 @@ returns-in_err-answer-clause-told g c =
     rw (p.1, p.2) (record {
       halt = Answering c.in-Some.message c.as_slice.result.now;
       last = Stops.answering _ _ _ c.next_frame.new.decoder.bytes c.in-Some.message c.as_slice.result.now reads is c.in_err-answer.ensures.did are c.in_err-answer.ensures.cause;
+      by_index = index_step _ _ (memory_of c.args.node.now) (memory_of new) c.in-Some.message _ c.as_slice.result.now c.as_slice.ensures c.in-Ok.ensures.by_index c.in-Ok.ensures.released;
       exact = λ holds.
           let kept = c.in-Ok.ensures.kept holds in (
             record {
@@ -211,5 +215,6 @@ returns-clause-told g c = record {
   is = rw c.in-Some.is at c.in_ok-message.ensures.message;
   writes = c.in_ok-answer.ensures.did;
   are = subst AreMessages (sym c.as_slice.ensures) (are_messages _ c.in-Ok.ensures.messages);
+  by_index = index_step _ _ (memory_of c.args.node.now) (memory_of c.on_msg.new.self) c.in-Some.message _ c.as_slice.result.now c.as_slice.ensures c.in-Ok.ensures.by_index c.in-Ok.ensures.released;
   step = λ holds. (c.as_slice.ensures ∙ c.in-Ok.ensures.replies holds, state_is _ _ _ _ (c.in-Ok.ensures.kept holds) c.in-Ok.ensures.released);
 }

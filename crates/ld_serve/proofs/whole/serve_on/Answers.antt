@@ -6,7 +6,7 @@ use Rattle.ld_serve.specs.Course.{IsServed, IsStopped}
 use Rattle.ld_serve.specs.Serving.{State, state_of, after, answers, IsAt, IsCut}
 use Rattle.ld_serve.proofs.Serving.{the_state, stand}
 use Rattle.ld_serve.proofs.Wholes.{held_where, has_served, has_stopped, is_serving, register_counts, stands_then}
-use Rattle.ld_serve.specs.Told.{IsTold, IsToldUntil}
+use Rattle.ld_serve.specs.Told.{memory_of, IsTold, IsToldUntil}
 use Rattle.ld_serve.proofs.Telling.{has_told}
 use Rattle.ld_serve.proofs.whole.serve_on.Goals as goal
 
@@ -70,8 +70,8 @@ returns-clause-told g c =
     let left = g.D.Disk.may_leave (disk_of new) in
     let held = Holds g.D.Disk.seen g.D.Disk.may_leave node in
     let told : (i : ℕ) (known : Known) (released : List (ℕ × ℕ)) → Type 0 = λ i known released.
-    MatchResult r (λ _. IsTold i known held old_did did (the_state (plain_of node) released) (state_of new) c.args.turns) (IsToldUntil i known held left old_did did (the_state (plain_of node) released) (state_of new) c.args.turns) in
-    rw c.into_disk.ensures (has_told left (g.G.Register.holds c.args.reg.now) _ c.args.id given c.args.format (g.D.Disk.seen c.args.disk) r old_did did c.args.turns (plain_of node) (state_of new) held _
+    MatchResult r (λ _. IsTold i known held old_did did (the_state (plain_of node) released) (state_of new) (memory_of node) (memory_of new) c.args.turns) (IsToldUntil i known held left old_did did (the_state (plain_of node) released) (state_of new) (memory_of node) (memory_of new) c.args.turns) in
+    rw c.into_disk.ensures (has_told left (g.G.Register.holds c.args.reg.now) _ c.args.id given c.args.format (g.D.Disk.seen c.args.disk) r old_did did c.args.turns (plain_of node) (state_of new) (memory_of node) (memory_of new) held _ opened.2
     c.in-Ok.ensures.opens c.in-Ok.ensures.holds
     (subst (λ i. told i given []) opened.0 (subst (λ known. told (id_of node) known []) opened.1 (subst (λ released. told (id_of node) (known_of node) released) opened.2 c.serve_peers-served.ensures.told)))
     (λ was. stands_then r (Holds g.D.Disk.seen g.D.Disk.may_leave new) left _ (c.serve_peers-served.ensures.holds was) (λ now. stand g.D.Disk.seen g.D.Disk.may_leave new (plain_of new) refl now)))

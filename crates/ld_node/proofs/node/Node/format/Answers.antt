@@ -34,23 +34,23 @@ returns-in_err-drawn-clause-register_full g c is told =
 -- ---- a format under what was drawn ----
 
 pub returns-clause-settled : goal.returns-clause-settled
-returns-clause-settled g c told = on_ok c.format_store.result _ (⊎_elim (λ no. absurd no) (λ settled. settled) (c.in_ok-drawn.ensures.settled told))
+returns-clause-settled g c told = on_ok c.format_store-formatted.result _ (⊎_elim (λ no. absurd no) (λ settled. settled) (c.in_ok-drawn.ensures.settled told))
 
 pub returns-clause-whole : goal.returns-clause-whole
-returns-clause-whole g c told = on_ok c.format_store.result _ (⊎_elim (λ no. absurd no) (λ whole. whole) (c.in_ok-drawn.ensures.whole told))
+returns-clause-whole g c told = on_ok c.format_store-formatted.result _ (⊎_elim (λ no. absurd no) (λ whole. whole) (c.in_ok-drawn.ensures.whole told))
 
 pub returns-clause-any_moment : goal.returns-clause-any_moment
 returns-clause-any_moment g c holds =
     let D = g.D.Disk in
     let node = c.args.self.now in
     let drawn = c.in_ok-drawn.drawn in
-    leaves_map D.moment D.left_since (disk_of node) (store_disk c.format_store.new.store) _ _
+    leaves_map D.moment D.left_since (disk_of node) (store_disk c.format_store-formatted.new.store) _ _
     (λ left is. ⊎_elim (λ was. inl was) (λ now. inr (drawn, (λ contents held. ⊎_elim (λ no. absurd no) (λ told. told.0) (c.in_ok-drawn.ensures.answers contents held)), now)) is)
-    (c.format_store.ensures.any_moment holds)
+    (c.format_store-formatted.ensures.any_moment holds)
 
 pub returns-clause-exact : goal.returns-clause-exact
 returns-clause-exact g c contents disk holds tells told =
     let node = c.args.self.now in
     let drawn = c.in_ok-drawn.drawn in
     let is : answered drawn ≡ drawn_by contents (id_of node) = ⊎_elim (λ no. absurd (cc no.0)) (λ told. told.0) (c.in_ok-drawn.ensures.exact contents tells) in
-    ⊎_elim (λ none. inl none) (λ keeps. inr (formats_by (layout_of node) (slots_of node) disk _ drawn _ c.format_store.result is keeps)) (c.format_store.ensures.exact disk holds told)
+    ⊎_elim (λ none. inl none) (λ keeps. inr (formats_by (layout_of node) (slots_of node) disk _ drawn _ c.format_store-formatted.result is keeps)) (c.format_store-formatted.ensures.exact disk holds told)

@@ -12,6 +12,7 @@ use Rattle.ld_node.proofs.Calls.{unchanged_too}
 use Rattle.ld_node.proofs.Draws.{refused, error_is}
 use Rattle.ld_node.proofs.Quiet.{none_raised, on_err}
 use Rattle.ld_node.proofs.Looks.{no_refusal}
+use Rattle.ld_node.proofs.ByIndex.{does_by_index}
 use Rattle.ld_node.proofs.node.Node.on_msg.Goals as goal
 
 -- ---- an op that is kept ----
@@ -87,3 +88,8 @@ returns-in_err-keep-clause-stays g c =
     let fault = c.in_err-keep.field-0.0 in
     rw (p.1, p.2) (⊎_elim (λ e. inl (ap refused (error_is fault nodes.Disk e)))
     (λ same. inr (unchanged_too D.seen D.may_leave D.moment D.left_since (disk_of c.args.self.now) (store_disk c.prepare.new.store) (store_disk c.keep.new.store) c.in_ok-op.ensures.same same)) c.in_err-keep.ensures.stays)
+
+-- ---- on any disk ----
+
+pub returns-clause-by_index : goal.returns-clause-by_index
+returns-clause-by_index g c = does_by_index _ _ _ _ _ _ _ _ _ c.in_ok-op.ensures.by_index c.in_ok-op.ensures.rest.0 c.in_ok-keep.ensures.laid.0

@@ -12,6 +12,7 @@ use Rattle.ld_node.specs.declared.fault.NodeFault.TheVariants as nodes
 use Rattle.ld_node.proofs.Calls.{reads_leave_staged}
 use Rattle.ld_node.proofs.Quiet.{none_raised, on_err}
 use Rattle.ld_node.proofs.Refusals.{disk_same, fault_same}
+use Rattle.ld_node.proofs.ByIndex.{does_by_index}
 use Rattle.ld_node.proofs.node.Node.stage_msg.Goals as goal
 
 -- ---- an op that is staged ----
@@ -94,3 +95,8 @@ returns-in_err-op-clause-damaged g c p place holds is =
     let q = err_from_is_err_and c.from_residual.result c.from_residual.ensures.1 in
     let damaged = rw (q.1, q.2) at is in
     c.in_err-op.ensures.damaged_staged p place holds (fault_same c.in_err-op.field-0.0 (nodes.Damaged place) damaged)
+
+-- ---- on any disk ----
+
+pub returns-clause-by_index : goal.returns-clause-by_index
+returns-clause-by_index g c = does_by_index _ _ _ _ _ _ _ _ _ c.in_ok-op.ensures.by_index c.in_ok-op.ensures.rest.0 c.in_ok-stage.ensures.laid
