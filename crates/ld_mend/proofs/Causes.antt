@@ -1,5 +1,7 @@
 -- Why it stops.
-use Rattle.std.proofs.Common.{◌≡◌, ◌≤◌, ℕ, Option, refl, inl, inr, arith}
+use Rattle.std.proofs.Common.{◌≡◌, ◌∙◌, ◌⊎◌, ◌≤◌, ℕ, Option, Ok, Err, refl, sym, subst, inl, inr, arith}
+use Rattle.std.specs.Prelude.{MatchResult}
+use Rattle.std.specs.declared.result.Result.{Result}
 use Rattle.ld_io.specs.Causes.{Rose}
 use Rattle.ld_wire.specs.declared.fault.WireFault.{WireFault}
 use Rattle.ld_register.specs.declared.fault.RegisterFault.{RegisterFault}
@@ -7,7 +9,7 @@ use Rattle.ld_register.specs.declared.fault.RegisterFault.TheVariants as registe
 use Rattle.ld_node.specs.declared.fault.NodeFault.{NodeFault}
 use Rattle.ld_node.specs.declared.fault.NodeFault.TheVariants as nodes
 use Rattle.ld_node.specs.Looks.{IsOfLook}
-use Rattle.ld_mend.specs.Stops.{stop_of, look_stop, Counts, AreLater, IsStop, IsWriteStop, IsFetchStop, IsCarryStop}
+use Rattle.ld_mend.specs.Stops.{stop_of, look_stop, Counts, AreLater, IsStop, IsWriteStop, IsFetchStop, IsCarryStop, DiskCounts}
 use Rattle.ld_mend.specs.declared.stop.Stop.{Stop}
 use Rattle.ld_mend.specs.declared.stop.Stop.TheVariants as stops
 
@@ -121,3 +123,60 @@ of_carry damaged before now off stops.NoMemory is = tt
 of_carry damaged before now off stops.Register is = absurd is
 of_carry damaged before now off (stops.RegisterDamaged place) is = absurd is
 of_carry damaged before now off stops.Write is = absurd is
+
+-- ---- the count of the disk's faults ----
+
+pub look_counts : (n : ℕ) (fault : RegisterFault) → DiskCounts n n (look_stop fault)
+look_counts n registers.Failed = refl
+look_counts n (registers.Damaged place) = refl
+look_counts n registers.LogLimit = refl
+look_counts n (registers.Behind lce next) = refl
+look_counts n (registers.Overtaken kept) = refl
+look_counts n registers.EpochLimit = refl
+look_counts n registers.GenLimit = refl
+look_counts n registers.SwapLimit = refl
+look_counts n registers.Full = refl
+look_counts n registers.NoMemory = refl
+
+other_counts : (before now : ℕ) (fault : RegisterFault) → now ≡ before → DiskCounts before now (look_stop fault)
+other_counts before now fault same = subst (λ (n : ℕ). DiskCounts before n (look_stop fault)) (sym same) (look_counts before fault)
+
+pub node_counts : (before now : ℕ) (fault : NodeFault) → (fault ≡ nodes.Disk → Rose before now) → (fault ≡ nodes.NeedsLoad → ⊥) → (fault ≡ nodes.Disk) ⊎ (now ≡ before) → DiskCounts before now (stop_of fault)
+node_counts before now nodes.Disk disk loads either = disk refl
+node_counts before now nodes.NeedsLoad disk loads either = absurd (loads refl)
+node_counts before now (nodes.Damaged place) disk loads (inl e) = absurd cc
+node_counts before now (nodes.Damaged place) disk loads (inr same) = same
+node_counts before now nodes.Full disk loads (inl e) = absurd cc
+node_counts before now nodes.Full disk loads (inr same) = same
+node_counts before now nodes.NoMemory disk loads (inl e) = absurd cc
+node_counts before now nodes.NoMemory disk loads (inr same) = same
+node_counts before now (nodes.Register f) disk loads (inl e) = absurd cc
+node_counts before now (nodes.Register f) disk loads (inr same) = other_counts before now f same
+
+pub write_counts : (b m before now : ℕ) (stop : Stop) → now ≡ before → IsWriteStop b m stop → DiskCounts before now stop
+write_counts b m before now stops.Write same is = same
+write_counts b m before now stops.NoMemory same is = same
+write_counts b m before now stops.Disk same is = absurd is
+write_counts b m before now (stops.Damaged place) same is = absurd is
+write_counts b m before now stops.Full same is = absurd is
+write_counts b m before now stops.Register same is = absurd is
+write_counts b m before now (stops.RegisterDamaged place) same is = absurd is
+write_counts b m before now (stops.BadFrame fault) same is = absurd is
+
+pub fetch_counts : (n : ℕ) (off : Option WireFault) (stop : Stop) → IsFetchStop off stop → DiskCounts n n stop
+fetch_counts n off (stops.BadFrame fault) is = refl
+fetch_counts n off stops.NoMemory is = refl
+fetch_counts n off stops.Disk is = absurd is
+fetch_counts n off (stops.Damaged place) is = absurd is
+fetch_counts n off stops.Full is = absurd is
+fetch_counts n off stops.Register is = absurd is
+fetch_counts n off (stops.RegisterDamaged place) is = absurd is
+fetch_counts n off stops.Write is = absurd is
+
+-- what was so since a later moment is so since an earlier one with the same count
+pub counts_since : (first before now : ℕ) (stop : Stop) → before ≡ first → DiskCounts before now stop → DiskCounts first now stop
+counts_since first before now stop same is = subst (λ (n : ℕ). DiskCounts n now stop) same is
+
+pub ended_since : {T : Type 0} (first before now : ℕ) (ended : Result T Stop) → before ≡ first → MatchResult ended (λ _. now ≡ before) (DiskCounts before now) → MatchResult ended (λ _. now ≡ first) (DiskCounts first now)
+ended_since first before now (Ok done) same is = is ∙ same
+ended_since first before now (Err stop) same is = counts_since first before now stop same is

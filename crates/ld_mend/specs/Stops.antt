@@ -75,3 +75,8 @@ IsCarryStop before now off stops.Full = Unit {0}
 IsCarryStop before now off (stops.BadFrame fault) = off ≡ Some fault
 IsCarryStop before now off stops.NoMemory = Unit {0}
 IsCarryStop before now off _ = ⊥
+
+-- the count of the disk's faults rose where that failed, and else it is the same
+abbrev pub DiskCounts : ℕ → ℕ → Stop → Type 0
+DiskCounts before now stops.Disk = Rose before now
+DiskCounts before now _ = now ≡ before

@@ -12,7 +12,7 @@ ghost use Rattle.ld_node.specs.Known.{Known};
 ghost use Rattle.ld_node.specs.Node.{disk_of, must_load, is_blank};
 ghost use Rattle.ld_mend.specs.Course.{ToldAs, IsHushed, Halted};
 ghost use Rattle.ld_mend.specs.Standing.{IsThere, at_of, Drove, AreFrom};
-ghost use Rattle.ld_mend.specs.Stops.{IsCarryStop};
+ghost use Rattle.ld_mend.specs.Stops.{IsCarryStop, DiskCounts};
 
 use crate::Stop;
 use crate::fetching::fetch;
@@ -47,6 +47,7 @@ fn bring<D: Disk, N: Nodes>(
     ensures works { OnOk result (must_load node.new ≡ false) }
     ensures cause { IfErr result (IsCarryStop (D.faults (disk_of node.old)) (D.faults (disk_of node.new)) (N.off nodes.new)) }
     ensures later { D.faults (disk_of node.old) ≤ D.faults (disk_of node.new) }
+    ensures disk_counts { MatchResult result (λ _. D.faults (disk_of node.new) ≡ D.faults (disk_of node.old)) (DiskCounts (D.faults (disk_of node.old)) (D.faults (disk_of node.new))) }
 {
     let Some(answer) = fetch(alloc, id, ask, gone, nodes)? else {
         return Ok(());
@@ -84,6 +85,7 @@ pub(crate) fn carry<D: Disk, N: Nodes>(
     ensures works { OnOk result (must_load node.new ≡ false) }
     ensures cause { IfErr result (IsCarryStop (D.faults (disk_of node.old)) (D.faults (disk_of node.new)) (N.off nodes.new)) }
     ensures later { D.faults (disk_of node.old) ≤ D.faults (disk_of node.new) }
+    ensures disk_counts { MatchResult result (λ _. D.faults (disk_of node.new) ≡ D.faults (disk_of node.old)) (DiskCounts (D.faults (disk_of node.old)) (D.faults (disk_of node.new))) }
 {
     'asks: for place in 0..asks.len() {
         bring(alloc, id, &asks[place], node, gone, nodes)?;

@@ -10,7 +10,7 @@ ghost use Rattle.ld_node.specs.Known.{Known, known_in};
 ghost use Rattle.ld_node.specs.Node.{disk_of, must_load, is_blank};
 ghost use Rattle.ld_mend.specs.Course.{ToldAs, IsHushed, Halted};
 ghost use Rattle.ld_mend.specs.Standing.{IsThere, at_of, Drives, Knows, Told, IsMended, logs_of};
-ghost use Rattle.ld_mend.specs.Stops.{IsStop, AreLater, WasDamaged, counts};
+ghost use Rattle.ld_mend.specs.Stops.{IsStop, AreLater, WasDamaged, counts, DiskCounts};
 
 use crate::Stop;
 use crate::carrying::carry;
@@ -52,6 +52,7 @@ fn turn<D: Disk, G: Register, N: Nodes, O: Sink>(
     ensures works { OnOk result (must_load node.new ≡ false) }
     ensures cause { IfErr result (IsStop (WasDamaged G.told G.damaged G.identity reg.old) (counts (D.faults (disk_of node.old)) (G.faults reg.old) (O.faults out.old)) (counts (D.faults (disk_of node.new)) (G.faults reg.new) (O.faults out.new)) (N.off nodes.new)) }
     ensures later { AreLater (counts (D.faults (disk_of node.old)) (G.faults reg.old) (O.faults out.old)) (counts (D.faults (disk_of node.new)) (G.faults reg.new) (O.faults out.new)) }
+    ensures disk_counts { MatchResult result (λ _. D.faults (disk_of node.new) ≡ D.faults (disk_of node.old)) (DiskCounts (D.faults (disk_of node.old)) (D.faults (disk_of node.new))) }
     ensures told { G.told reg.old → G.told reg.new }
     ensures itself { G.identity reg.new ≡ G.identity reg.old }
 {
@@ -87,6 +88,7 @@ fn round<D: Disk, G: Register, N: Nodes, O: Sink>(
     ensures works { OnOk result (must_load node.new ≡ false) }
     ensures cause { IfErr result (IsStop (WasDamaged G.told G.damaged G.identity reg.old) (counts (D.faults (disk_of node.old)) (G.faults reg.old) (O.faults out.old)) (counts (D.faults (disk_of node.new)) (G.faults reg.new) (O.faults out.new)) (N.off nodes.new)) }
     ensures later { AreLater (counts (D.faults (disk_of node.old)) (G.faults reg.old) (O.faults out.old)) (counts (D.faults (disk_of node.new)) (G.faults reg.new) (O.faults out.new)) }
+    ensures disk_counts { MatchResult result (λ _. D.faults (disk_of node.new) ≡ D.faults (disk_of node.old)) (DiskCounts (D.faults (disk_of node.old)) (D.faults (disk_of node.new))) }
     ensures told { G.told reg.old → G.told reg.new }
     ensures itself { G.identity reg.new ≡ G.identity reg.old }
 {
@@ -149,6 +151,7 @@ fn go_round<D: Disk, G: Register, N: Nodes, O: Sink>(
     ensures works { OnOk result (must_load node.new ≡ false) }
     ensures cause { IfErr result (IsStop (WasDamaged G.told G.damaged G.identity reg.old) (counts (D.faults (disk_of node.old)) (G.faults reg.old) (O.faults out.old)) (counts (D.faults (disk_of node.new)) (G.faults reg.new) (O.faults out.new)) (N.off nodes.new)) }
     ensures later { AreLater (counts (D.faults (disk_of node.old)) (G.faults reg.old) (O.faults out.old)) (counts (D.faults (disk_of node.new)) (G.faults reg.new) (O.faults out.new)) }
+    ensures disk_counts { MatchResult result (λ _. D.faults (disk_of node.new) ≡ D.faults (disk_of node.old)) (DiskCounts (D.faults (disk_of node.old)) (D.faults (disk_of node.new))) }
     ensures told { G.told reg.old → G.told reg.new }
     ensures itself { G.identity reg.new ≡ G.identity reg.old }
 {
@@ -184,6 +187,7 @@ fn stand<D: Disk, G: Register, O: Sink>(
     ensures works { OnOk result (must_load node.new ≡ false) }
     ensures cause { IfErr result (IsStop (WasDamaged G.told G.damaged G.identity reg.old) (counts (D.faults (disk_of node.old)) (G.faults reg.old) (O.faults out.old)) (counts (D.faults (disk_of node.new)) (G.faults reg.new) (O.faults out.new)) None) }
     ensures later { AreLater (counts (D.faults (disk_of node.old)) (G.faults reg.old) (O.faults out.old)) (counts (D.faults (disk_of node.new)) (G.faults reg.new) (O.faults out.new)) }
+    ensures disk_counts { MatchResult result (λ _. D.faults (disk_of node.new) ≡ D.faults (disk_of node.old)) (DiskCounts (D.faults (disk_of node.old)) (D.faults (disk_of node.new))) }
     ensures told { G.told reg.old → G.told reg.new }
     ensures itself { G.identity reg.new ≡ G.identity reg.old }
 {
@@ -215,6 +219,7 @@ fn tell_log<D: Disk, G: Register, O: Sink>(
     ensures works { OnOk result (must_load node.new ≡ false) }
     ensures cause { IfErr result (IsStop (WasDamaged G.told G.damaged G.identity reg.old) (counts (D.faults (disk_of node.old)) (G.faults reg.old) (O.faults out.old)) (counts (D.faults (disk_of node.new)) (G.faults reg.new) (O.faults out.new)) None) }
     ensures later { AreLater (counts (D.faults (disk_of node.old)) (G.faults reg.old) (O.faults out.old)) (counts (D.faults (disk_of node.new)) (G.faults reg.new) (O.faults out.new)) }
+    ensures disk_counts { MatchResult result (λ _. D.faults (disk_of node.new) ≡ D.faults (disk_of node.old)) (DiskCounts (D.faults (disk_of node.old)) (D.faults (disk_of node.new))) }
     ensures told { G.told reg.old → G.told reg.new }
     ensures itself { G.identity reg.new ≡ G.identity reg.old }
 {
@@ -244,6 +249,7 @@ fn tell<D: Disk, G: Register, O: Sink>(
     ensures works { OnOk result (must_load node.new ≡ false) }
     ensures cause { IfErr result (IsStop (WasDamaged G.told G.damaged G.identity reg.old) (counts (D.faults (disk_of node.old)) (G.faults reg.old) (O.faults out.old)) (counts (D.faults (disk_of node.new)) (G.faults reg.new) (O.faults out.new)) None) }
     ensures later { AreLater (counts (D.faults (disk_of node.old)) (G.faults reg.old) (O.faults out.old)) (counts (D.faults (disk_of node.new)) (G.faults reg.new) (O.faults out.new)) }
+    ensures disk_counts { MatchResult result (λ _. D.faults (disk_of node.new) ≡ D.faults (disk_of node.old)) (DiskCounts (D.faults (disk_of node.old)) (D.faults (disk_of node.new))) }
     ensures told { G.told reg.old → G.told reg.new }
     ensures itself { G.identity reg.new ≡ G.identity reg.old }
 {
@@ -297,6 +303,7 @@ pub fn mend<D: Disk, G: Register, N: Nodes, O: Sink>(
     ensures works { OnOk result (must_load node.new ≡ false) }
     ensures cause { IfErr result (IsStop (WasDamaged G.told G.damaged G.identity reg.old) (counts (D.faults (disk_of node.old)) (G.faults reg.old) (O.faults out.old)) (counts (D.faults (disk_of node.new)) (G.faults reg.new) (O.faults out.new)) (N.off nodes.new)) }
     ensures later { AreLater (counts (D.faults (disk_of node.old)) (G.faults reg.old) (O.faults out.old)) (counts (D.faults (disk_of node.new)) (G.faults reg.new) (O.faults out.new)) }
+    ensures disk_counts { MatchResult result (λ _. D.faults (disk_of node.new) ≡ D.faults (disk_of node.old)) (DiskCounts (D.faults (disk_of node.old)) (D.faults (disk_of node.new))) }
     ensures told { G.told reg.old → G.told reg.new }
     ensures itself { G.identity reg.new ≡ G.identity reg.old }
 {

@@ -13,7 +13,7 @@ ghost use Rattle.ld_node.specs.Msgs.{released_in};
 ghost use Rattle.ld_node.specs.Node.{plain_of, released_of, layout_of, disk_of, must_load, is_blank};
 ghost use Rattle.ld_mend.specs.Course.{is_open, asked_from, lowest_asked, own_answer, Leaves};
 ghost use Rattle.ld_mend.specs.Standing.{IsThere, at_of, first_open, OpenAt};
-ghost use Rattle.ld_mend.specs.Stops.{IsStop, IsCarryStop, AreLater, WasDamaged, counts};
+ghost use Rattle.ld_mend.specs.Stops.{IsStop, IsCarryStop, AreLater, WasDamaged, counts, DiskCounts};
 
 use crate::Stop;
 use crate::stop::{look_stop, stop_of};
@@ -89,6 +89,7 @@ fn ask_self<D: Disk>(
     ensures works { OnOk result (must_load node.new ≡ false) }
     ensures cause { IfErr result (IsCarryStop (D.faults (disk_of node.old)) (D.faults (disk_of node.new)) None) }
     ensures later { D.faults (disk_of node.old) ≤ D.faults (disk_of node.new) }
+    ensures disk_counts { MatchResult result (λ _. D.faults (disk_of node.new) ≡ D.faults (disk_of node.old)) (DiskCounts (D.faults (disk_of node.old)) (D.faults (disk_of node.new))) }
 {
     let _ = id.number();
     let _ = log.number();
@@ -128,6 +129,7 @@ pub(crate) fn open_number<D: Disk, G: Register>(
     ensures works { OnOk result (must_load node.new ≡ false) }
     ensures cause { IfErr result (IsStop (WasDamaged G.told G.damaged G.identity reg.old) (counts (D.faults (disk_of node.old)) (G.faults reg.old) 0) (counts (D.faults (disk_of node.new)) (G.faults reg.new) 0) None) }
     ensures later { AreLater (counts (D.faults (disk_of node.old)) (G.faults reg.old) 0) (counts (D.faults (disk_of node.new)) (G.faults reg.new) 0) }
+    ensures disk_counts { MatchResult result (λ _. D.faults (disk_of node.new) ≡ D.faults (disk_of node.old)) (DiskCounts (D.faults (disk_of node.old)) (D.faults (disk_of node.new))) }
     ensures told { G.told reg.old → G.told reg.new }
     ensures itself { G.identity reg.new ≡ G.identity reg.old }
 {

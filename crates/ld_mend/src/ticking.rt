@@ -12,7 +12,7 @@ ghost use Rattle.ld_node.specs.Looks.{AskMessages};
 ghost use Rattle.ld_node.specs.Node.{plain_of, disk_of, must_load, is_blank};
 ghost use Rattle.ld_mend.specs.Course.{asked_by, tick_answer, tick_op, Moved, Halted};
 ghost use Rattle.ld_mend.specs.Standing.{IsThere, at_of, asks_of, Settles};
-ghost use Rattle.ld_mend.specs.Stops.{AreLater, IsStop, WasDamaged, counts};
+ghost use Rattle.ld_mend.specs.Stops.{AreLater, IsStop, WasDamaged, counts, DiskCounts};
 
 use crate::Stop;
 use crate::lines::tell_ticked;
@@ -48,6 +48,7 @@ fn tick<D: Disk, G: Register, O: Sink>(
     ensures works { OnOk result (must_load node.new ≡ false) }
     ensures cause { IfErr result (IsStop (WasDamaged G.told G.damaged G.identity reg.old) (counts (D.faults (disk_of node.old)) (G.faults reg.old) (O.faults out.old)) (counts (D.faults (disk_of node.new)) (G.faults reg.new) (O.faults out.new)) None) }
     ensures later { AreLater (counts (D.faults (disk_of node.old)) (G.faults reg.old) (O.faults out.old)) (counts (D.faults (disk_of node.new)) (G.faults reg.new) (O.faults out.new)) }
+    ensures disk_counts { MatchResult result (λ _. D.faults (disk_of node.new) ≡ D.faults (disk_of node.old)) (DiskCounts (D.faults (disk_of node.old)) (D.faults (disk_of node.new))) }
     ensures told { G.told reg.old → G.told reg.new }
     ensures itself { G.identity reg.new ≡ G.identity reg.old }
 {
@@ -85,6 +86,7 @@ pub(crate) fn settle<D: Disk, G: Register, O: Sink>(
     ensures works { OnOk result (must_load node.new ≡ false) }
     ensures cause { IfErr result (IsStop (WasDamaged G.told G.damaged G.identity reg.old) (counts (D.faults (disk_of node.old)) (G.faults reg.old) (O.faults out.old)) (counts (D.faults (disk_of node.new)) (G.faults reg.new) (O.faults out.new)) None) }
     ensures later { AreLater (counts (D.faults (disk_of node.old)) (G.faults reg.old) (O.faults out.old)) (counts (D.faults (disk_of node.new)) (G.faults reg.new) (O.faults out.new)) }
+    ensures disk_counts { MatchResult result (λ _. D.faults (disk_of node.new) ≡ D.faults (disk_of node.old)) (DiskCounts (D.faults (disk_of node.old)) (D.faults (disk_of node.new))) }
     ensures told { G.told reg.old → G.told reg.new }
     ensures itself { G.identity reg.new ≡ G.identity reg.old }
 {

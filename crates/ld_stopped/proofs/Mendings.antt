@@ -17,12 +17,13 @@ use Rattle.ld_node.specs.Node.{plain_of, layout_of, slots_of, disk_of, Holds, Is
 use Rattle.ld_dial.specs.Far.{Far}
 use Rattle.ld_mend.specs.Course.{At, Moved, Halted, ToldAs}
 use Rattle.ld_mend.specs.Standing.{IsMended}
-use Rattle.ld_mend.specs.Stops.{Counts, IsStop}
+use Rattle.ld_mend.specs.Stops.{Counts, IsStop, DiskCounts as Counted}
 use Rattle.ld_mend.specs.declared.stop.Stop.{Stop as Mend}
+use Rattle.ld_mend.specs.declared.stop.Stop.TheVariants as mends
 use Rattle.ld_stopped.specs.declared.stop.Stop.{Stop}
 use Rattle.ld_stopped.specs.Opening.{ShowsMarked}
 use Rattle.ld_stopped.specs.Mending.{LiesThen, opened_at, HasMended, HasHalted, IsMendStop, ended}
-use Rattle.ld_stopped.specs.Stops.{stop_of_mend}
+use Rattle.ld_stopped.specs.Stops.{stop_of_mend, DiskCounts}
 
 -- ---- a node that was opened ----
 
@@ -86,3 +87,20 @@ stopped_so damaged first before now off N (Err halt) e is = inr (record { halt =
 pub ended_ok : (X : Type 0) (result : Result Bool Mend) → X → OnOk (ended result) X
 ended_ok X (Ok b) x = x
 ended_ok X (Err halt) x = tt
+
+-- ---- the count of the disk's faults ----
+
+halt_counts : (before now : ℕ) (halt : Mend) → Counted before now halt → DiskCounts before now (stop_of_mend halt)
+halt_counts before now mends.Disk is = is
+halt_counts before now (mends.Damaged place) is = is
+halt_counts before now mends.Full is = is
+halt_counts before now mends.Register is = is
+halt_counts before now (mends.RegisterDamaged place) is = is
+halt_counts before now (mends.BadFrame fault) is = is
+halt_counts before now mends.Write is = is
+halt_counts before now mends.NoMemory is = is
+
+pub ended_counts : (first before now : ℕ) (result : Result Bool Mend) → before ≡ first → MatchResult result (λ _. now ≡ before) (Counted before now)
+    → MatchResult (ended result) (λ _. now ≡ first) (DiskCounts first now)
+ended_counts first before now (Ok b) e is = is ∙ e
+ended_counts first before now (Err halt) e is = subst (λ (n : ℕ). DiskCounts n now (stop_of_mend halt)) e (halt_counts before now halt is)

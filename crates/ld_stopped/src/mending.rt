@@ -11,7 +11,7 @@ ghost use Rattle.ld_mend.specs.Stops.{AreLater, WasDamaged, counts};
 ghost use Rattle.ld_serve.specs.Opening.{IsBlank};
 ghost use Rattle.ld_stopped.specs.Opening.{IsNotLoaded};
 ghost use Rattle.ld_stopped.specs.Mending.{HasMended, HasHalted, IsNotOpened, IsMendStop, ended};
-ghost use Rattle.ld_stopped.specs.Stops.{stop_of_mend};
+ghost use Rattle.ld_stopped.specs.Stops.{stop_of_mend, DiskCounts};
 
 use crate::Stop;
 use crate::opening::{let_go, opened};
@@ -74,6 +74,7 @@ fn mend_on<D: Disk, G: Register, N: Nodes, O: Sink>(
         ⊎ IsMendStop (WasDamaged G.told G.damaged G.identity reg.old) (counts (D.faults disk) (G.faults reg.old) (O.faults out.old)) (counts (D.faults result.0) (G.faults reg.new) (O.faults out.new)) (N.off nodes.new) stop) }
     ensures silent { N.silent nodes.old ≡ true → N.silent nodes.new ≡ true }
     ensures later { AreLater (counts (D.faults disk) (G.faults reg.old) (O.faults out.old)) (counts (D.faults result.0) (G.faults reg.new) (O.faults out.new)) }
+    ensures disk_counts { MatchResult result.1 (λ _. D.faults result.0 ≡ D.faults disk) (DiskCounts (D.faults disk) (D.faults result.0)) }
     ensures told { G.told reg.old → G.told reg.new }
     ensures itself { G.identity reg.new ≡ G.identity reg.old }
 {
@@ -131,6 +132,7 @@ pub fn mend_store<D: Disk, G: Register, N: Nodes, O: Sink>(
         ⊎ IsMendStop (WasDamaged G.told G.damaged G.identity reg.old) (counts (D.faults disk.old) (G.faults reg.old) (O.faults out.old)) (counts (D.faults disk.new) (G.faults reg.new) (O.faults out.new)) (N.off nodes.new) stop) }
     ensures silent { N.silent nodes.old ≡ true → N.silent nodes.new ≡ true }
     ensures later { AreLater (counts (D.faults disk.old) (G.faults reg.old) (O.faults out.old)) (counts (D.faults disk.new) (G.faults reg.new) (O.faults out.new)) }
+    ensures disk_counts { MatchResult result (λ _. D.faults disk.new ≡ D.faults disk.old) (DiskCounts (D.faults disk.old) (D.faults disk.new)) }
     ensures told { G.told reg.old → G.told reg.new }
     ensures itself { G.identity reg.new ≡ G.identity reg.old }
 {

@@ -1,8 +1,9 @@
 // A stopped node is opened: loaded from its disk, on which some record has to stand.
 ghost use Rattle.std.specs.Prelude.{◌≡◌, ◌≢◌, ◌≤◌, [], IfOk, IfErr, IfSome, MatchResult, false};
+ghost use Rattle.ld_layout.specs.declared.segment.Growth.TheVariants.{Wide};
 ghost use Rattle.ld_register.specs.declared.fault.RegisterFault.{RegisterFault as Refusal};
 ghost use Rattle.ld_node.specs.Known.{known_in};
-ghost use Rattle.ld_node.specs.Node.{id_of, known_of, released_of, disk_of, must_load, is_blank, IsOpened};
+ghost use Rattle.ld_node.specs.Node.{id_of, known_of, released_of, disk_of, layout_of, must_load, is_blank, IsOpened};
 ghost use Rattle.ld_serve.specs.Opening.{IsBlank};
 ghost use Rattle.ld_stopped.specs.Opening.{IsNotLoaded, LeavesMarked, ShowsMarked};
 ghost use Rattle.ld_stopped.specs.Stops.{DiskCounts, stop_of_load};
@@ -32,7 +33,7 @@ fn load_stop(fault: NodeFault) -> Stop
 }
 
 /// Opens the node of this number on its disk, which is loaded: that marks a store of the first version as one of the second.
-/// Nothing is released yet. The room of each segment that the node begins grows with its Base.
+/// Nothing is released yet. Each segment that the node begins is wide.
 ///
 /// A refusal hands the disk back: `Disk` where a call of it failed, `Damaged(Store, place)` as a node's load says,
 /// `Full(Store)` where a mark, or the segment that it needs, would make the store longer than 2^40 bytes, `Blank` where no
@@ -45,6 +46,7 @@ pub(crate) fn opened<D: Disk>(
 ) -> Result<Node<D>, (D, Stop)>
     ensures node { IfOk result (λ node. (id_of node ≡ id) × (known_of node ≡ known_in config.now) × (released_of node ≡ [])) }
     ensures works { IfOk result (λ node. (is_blank node ≡ false) × (must_load node ≡ false)) }
+    ensures wide { IfOk result (λ node. (layout_of node).grows ≡ Wide) }
     ensures opens { IfOk result (λ node. IfSome (D.seen disk) (IsOpened D.seen D.may_leave node)) }
     ensures formatted { IfOk result (λ _. IfSome (D.seen disk) (λ bytes. ¬ IsBlank bytes)) }
     ensures same { IfOk result (λ node. ShowsMarked (D.seen disk) (D.seen (disk_of node))) }

@@ -6,7 +6,7 @@ use Rattle.ld_node.specs.Changes.{kept}
 use Rattle.ld_node.specs.Node.{plain_of, disk_of}
 use Rattle.ld_mend.specs.Course.{Takes, handed_far}
 use Rattle.ld_mend.specs.Standing.{IsThere, at_of}
-use Rattle.ld_mend.proofs.Causes.{whole_fetch}
+use Rattle.ld_mend.proofs.Causes.{whole_fetch, fetch_counts, node_counts}
 use Rattle.ld_mend.proofs.Going.{moved_one, halted_here, refused_leaves, stands_leaves}
 use Rattle.ld_mend.proofs.Handing.{handed_hushes}
 use Rattle.ld_mend.proofs.Nodes.{at_is, plain_stays, stand, left_now}
@@ -70,3 +70,16 @@ returns-clause-moved g c known k r asked far place written there at from told =
           (left_now g.D.Disk.may_leave g.D.Disk.moment g.D.Disk.left_since g.met.D.Disk.counts_now (disk_of old) (disk_of new) _ (did.any_moment there.holds) bytes may);
     }))
     (⊎_elim (λ e. inl cc) (λ same. ⊎_elim (λ e. inl cc) (λ still. inr (stand g.D.Disk.seen g.D.Disk.may_leave new (plain_of old) (sym (plain_stays old new same.bytes did.refused.0)) still)) (did.holds there.holds)) did.stays))))
+
+pub returns-in_err-answer-clause-disk_counts : goal.returns-in_err-answer-clause-disk_counts
+returns-in_err-answer-clause-disk_counts g c =
+    let p = err_from_is_err_and c.from_residual.result c.from_residual.ensures.1 in
+    rw (p.1, p.2) (fetch_counts _ _ _ c.in_err-answer.ensures.cause)
+
+pub returns-in-Ok-clause-disk_counts : goal.returns-in-Ok-clause-disk_counts
+returns-in-Ok-clause-disk_counts g c = ⊎_elim (λ e. absurd cc) (λ same. same) c.in-Ok.ensures.steady
+
+pub returns-clause-disk_counts : goal.returns-clause-disk_counts
+returns-clause-disk_counts g c =
+    let did = c.in-Err.ensures in
+    rw c.stop_of.ensures (node_counts _ _ c.in-Err.fault (λ is. did.failed (ap Err is)) (λ is. true≢false (sym (did.needs_load.0 (ap Err is)) ∙ c.requires.works)) (⊎_elim (λ e. inl cc) (λ same. inr same) did.steady))

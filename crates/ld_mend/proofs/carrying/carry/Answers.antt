@@ -5,6 +5,7 @@ use Rattle.ld_msg.specs.declared.msg.Msg.{Msg}
 use Rattle.ld_msg.specs.declared.msg.Who.TheVariants as whos
 use Rattle.ld_node.specs.Node.{disk_of}
 use Rattle.ld_mend.specs.Standing.{IsThere, at_of}
+use Rattle.ld_mend.proofs.Causes.{counts_since}
 use Rattle.ld_mend.proofs.Takings.{drove_on, stopped_on, all-slice_get}
 use Rattle.ld_mend.proofs.carrying.carry.Goals as goal
 
@@ -32,5 +33,14 @@ asks-preserved g c = record {
       (λ f t heard. c.in_ok-bring.ensures.moved known k r asks f c.asks.place written t at (all-slice_get (λ (m : Msg). m.from ≡ whos.Node c.args.id) asks c.asks.place ask from at) heard);
   silent = λ h. c.in_ok-bring.ensures.silent (c.asks.invariant.silent h);
   later = omega (arith, c.in_ok-bring.ensures.later, c.asks.invariant.later);
+  disk = c.in_ok-bring.ensures.disk_counts ∙ c.asks.invariant.disk;
   lent = c.in_ok-bring.ensures.lent ∙ c.asks.invariant.lent;
 }
+
+pub returns-in_err-bring-clause-disk_counts : goal.returns-in_err-bring-clause-disk_counts
+returns-in_err-bring-clause-disk_counts g c =
+    let p = err_from_is_err_and c.from_residual.result c.from_residual.ensures.1 in
+    rw (p.1, p.2) (counts_since _ _ _ _ c.asks.invariant.disk c.in_err-bring.ensures.disk_counts)
+
+pub returns-clause-disk_counts : goal.returns-clause-disk_counts
+returns-clause-disk_counts g c = c.asks.invariant.disk

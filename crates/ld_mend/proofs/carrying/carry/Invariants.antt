@@ -17,5 +17,6 @@ invariant-asks g l = record {
       → IsHushed (g.N.Nodes.silent l.nodes) far ⊎ Drove (IsThere g.D.Disk.seen g.D.Disk.may_leave l.id known l.node) (g.N.Nodes.tells l.nodes c) l.id known c r (at_of l.fn.node l.asks far) (at_of l.node l.asks) [] written written;
   silent : g.N.Nodes.silent l.fn.nodes ≡ true → g.N.Nodes.silent l.nodes ≡ true;
   later : g.D.Disk.faults (disk_of l.fn.node) ≤ g.D.Disk.faults (disk_of l.node);
+  disk : g.D.Disk.faults (disk_of l.node) ≡ g.D.Disk.faults (disk_of l.fn.node);
   lent : g.D.Disk.identity (disk_of l.node) ≡ g.D.Disk.identity (disk_of l.fn.node);
 }

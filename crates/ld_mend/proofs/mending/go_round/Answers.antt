@@ -3,7 +3,7 @@ use Rattle.std.proofs.lemmas.Result.{err_from_is_err_and}
 use Rattle.ld_node.specs.Known.{known_in}
 use Rattle.ld_node.specs.Node.{disk_of}
 use Rattle.ld_mend.specs.Standing.{IsThere, at_of}
-use Rattle.ld_mend.proofs.Causes.{stop_since}
+use Rattle.ld_mend.proofs.Causes.{stop_since, counts_since}
 use Rattle.ld_mend.proofs.Going.{moved_here}
 use Rattle.ld_mend.proofs.Logs.{drives_on, halts_on}
 use Rattle.ld_mend.proofs.mending.go_round.Goals as goal
@@ -20,6 +20,7 @@ rounds-init g c = record {
   later = record { disk = omega arith; register = omega arith; output = omega arith };
   told = λ h. h;
   itself = refl;
+  disk = refl;
   lent = refl;
 }
 
@@ -50,6 +51,7 @@ rounds-preserved g c = record {
   later = record { disk = omega (arith, c.rounds.invariant.later.disk, c.in_ok-mended.ensures.later.disk); register = omega (arith, c.rounds.invariant.later.register, c.in_ok-mended.ensures.later.register); output = omega (arith, c.rounds.invariant.later.output, c.in_ok-mended.ensures.later.output) };
   told = λ h. c.in_ok-mended.ensures.told (c.rounds.invariant.told h);
   itself = c.in_ok-mended.ensures.itself ∙ c.rounds.invariant.itself;
+  disk = c.in_ok-mended.ensures.disk_counts ∙ c.rounds.invariant.disk;
   lent = c.in_ok-mended.ensures.lent ∙ c.rounds.invariant.lent;
 }
 
@@ -58,3 +60,14 @@ returns-then-mended-clause-moved g c r asked far there held told = drives_on (g.
     (IsThere g.D.Disk.seen g.D.Disk.may_leave c.args.id (known_in c.args.config.now) c.rounds.node × g.G.Register.holds c.rounds.reg r) (g.N.Nodes.tells c.rounds.nodes c.args.config.now) c.args.id (known_in c.args.config.now) c.args.config.now r (at_of c.args.node.now asked far) (at_of c.rounds.node)
     (g.O.Sink.written c.args.out.now) (g.O.Sink.written c.rounds.out) (g.O.Sink.written c.round.new.out) (λ last f. refl) (IsThere g.D.Disk.seen g.D.Disk.may_leave c.args.id (known_in c.args.config.now) c.round.new.node × g.G.Register.holds c.round.new.reg r) (g.N.Nodes.tells c.round.new.nodes c.args.config.now) (at_of c.round.new.node) (c.rounds.invariant.moved r asked far there held told)
     (λ last f at heard. c.in_ok-mended.ensures.moved r last f at.0 at.1 heard)
+
+pub returns-in_err-mended-clause-disk_counts : goal.returns-in_err-mended-clause-disk_counts
+returns-in_err-mended-clause-disk_counts g c =
+    let p = err_from_is_err_and c.from_residual.result c.from_residual.ensures.1 in
+    rw (p.1, p.2) (counts_since _ _ _ _ c.rounds.invariant.disk c.in_err-mended.ensures.disk_counts)
+
+pub returns-then-mended-clause-disk_counts : goal.returns-then-mended-clause-disk_counts
+returns-then-mended-clause-disk_counts g c = c.in_ok-mended.ensures.disk_counts ∙ c.rounds.invariant.disk
+
+pub returns-clause-disk_counts : goal.returns-clause-disk_counts
+returns-clause-disk_counts g c = c.rounds.invariant.disk

@@ -20,5 +20,6 @@ invariant-rounds g l = record {
   later : AreLater (counts (g.D.Disk.faults (disk_of l.fn.node)) (g.G.Register.faults l.fn.reg) (g.O.Sink.faults l.fn.out)) (counts (g.D.Disk.faults (disk_of l.node)) (g.G.Register.faults l.reg) (g.O.Sink.faults l.out));
   told : g.G.Register.told l.fn.reg → g.G.Register.told l.reg;
   itself : g.G.Register.identity l.reg ≡ g.G.Register.identity l.fn.reg;
+  disk : g.D.Disk.faults (disk_of l.node) ≡ g.D.Disk.faults (disk_of l.fn.node);
   lent : g.D.Disk.identity (disk_of l.node) ≡ g.D.Disk.identity (disk_of l.fn.node);
 }

@@ -3,7 +3,7 @@ use Rattle.std.proofs.lemmas.Result.{err_from_is_err_and}
 use Rattle.ld_node.specs.Known.{known_in}
 use Rattle.ld_node.specs.Node.{disk_of}
 use Rattle.ld_mend.specs.Standing.{IsThere, at_of}
-use Rattle.ld_mend.proofs.Causes.{stop_since}
+use Rattle.ld_mend.proofs.Causes.{stop_since, counts_since}
 use Rattle.ld_mend.proofs.Going.{moved_here}
 use Rattle.ld_mend.proofs.Logs.{log_known, drives_on, halts_on}
 use Rattle.ld_mend.proofs.mending.round.Goals as goal
@@ -22,6 +22,7 @@ logs-init g c = (
     later = record { disk = omega arith; register = omega arith; output = omega arith };
     told = λ h. h;
     itself = refl;
+    disk = refl;
     lent = refl;
   },
 )
@@ -55,6 +56,15 @@ logs-preserved g c = (
     later = record { disk = omega (arith, c.logs.invariant.1.later.disk, c.in_ok-whole.ensures.later.disk); register = omega (arith, c.logs.invariant.1.later.register, c.in_ok-whole.ensures.later.register); output = omega (arith, c.logs.invariant.1.later.output, c.in_ok-whole.ensures.later.output) };
     told = λ h. c.in_ok-whole.ensures.told (c.logs.invariant.1.told h);
     itself = c.in_ok-whole.ensures.itself ∙ c.logs.invariant.1.itself;
+    disk = c.in_ok-whole.ensures.disk_counts ∙ c.logs.invariant.1.disk;
     lent = c.in_ok-whole.ensures.lent ∙ c.logs.invariant.1.lent;
   },
 )
+
+pub returns-in_err-whole-clause-disk_counts : goal.returns-in_err-whole-clause-disk_counts
+returns-in_err-whole-clause-disk_counts g c =
+    let p = err_from_is_err_and c.from_residual.result c.from_residual.ensures.1 in
+    rw (p.1, p.2) (counts_since _ _ _ _ c.logs.invariant.1.disk c.in_err-whole.ensures.disk_counts)
+
+pub returns-clause-disk_counts : goal.returns-clause-disk_counts
+returns-clause-disk_counts g c = c.logs.invariant.1.disk

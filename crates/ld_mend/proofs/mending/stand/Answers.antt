@@ -3,6 +3,7 @@ use Rattle.std.proofs.lemmas.Result.{err_from_is_err_and}
 use Rattle.ld_node.specs.Node.{disk_of}
 use Rattle.ld_mend.specs.Course.{At, Moved, Stands, lowest_asked}
 use Rattle.ld_mend.specs.Standing.{at_of}
+use Rattle.ld_mend.proofs.Causes.{counts_since}
 use Rattle.ld_mend.proofs.Going.{halted_here, halted_on}
 use Rattle.ld_mend.proofs.Logs.{stands_of}
 use Rattle.ld_mend.proofs.mending.stand.Goals as goal
@@ -35,3 +36,11 @@ returns-clause-moved g c known k r asked far there has held =
       did.1,
       record { asked = c.in-Some.asks; moved = did.2; stands = inl (c.in-Some.asks, did.3, c.lowest_asked.ensures ∙ ap lowest_asked c.as_slice.ensures) },
     )
+
+pub returns-in_err-lacks-clause-disk_counts : goal.returns-in_err-lacks-clause-disk_counts
+returns-in_err-lacks-clause-disk_counts g c =
+    let p = err_from_is_err_and c.from_residual-in_err-lacks.result c.from_residual-in_err-lacks.ensures.1 in
+    rw (p.1, p.2) (counts_since _ _ _ _ c.in_ok-asks.ensures.disk_counts c.in_err-lacks.ensures.disk_counts)
+
+pub returns-in_default-clause-disk_counts : goal.returns-in_default-clause-disk_counts
+returns-in_default-clause-disk_counts g c = c.in_ok-lacks.ensures.disk_counts ∙ c.in_ok-asks.ensures.disk_counts

@@ -5,7 +5,7 @@ use Rattle.ld_ids.specs.declared.set.Spec.{Spec}
 use Rattle.ld_node.specs.Known.{known_in}
 use Rattle.ld_node.specs.Node.{disk_of}
 use Rattle.ld_mend.specs.Standing.{at_of, logs_of, Told}
-use Rattle.ld_mend.proofs.Causes.{stop_since}
+use Rattle.ld_mend.proofs.Causes.{stop_since, counts_since}
 use Rattle.ld_mend.proofs.Going.{moved_here, halted_on}
 use Rattle.ld_mend.proofs.Logs.{took, log_known, told_none, told_on}
 use Rattle.ld_mend.proofs.mending.tell.Goals as goal
@@ -25,6 +25,7 @@ logs-init g c = (
     later = record { disk = omega arith; register = omega arith; output = omega arith };
     told = λ h. h;
     itself = refl;
+    disk = refl;
     lent = refl;
   },
 )
@@ -65,6 +66,7 @@ logs-preserved g c = (
     later = record { disk = omega (arith, c.logs.invariant.1.later.disk, c.in_ok-whole.ensures.later.disk); register = omega (arith, c.logs.invariant.1.later.register, c.in_ok-whole.ensures.later.register); output = omega (arith, c.logs.invariant.1.later.output, c.in_ok-whole.ensures.later.output) };
     told = λ h. c.in_ok-whole.ensures.told (c.logs.invariant.1.told h);
     itself = c.in_ok-whole.ensures.itself ∙ c.logs.invariant.1.itself;
+    disk = c.in_ok-whole.ensures.disk_counts ∙ c.logs.invariant.1.disk;
     lent = c.in_ok-whole.ensures.lent ∙ c.logs.invariant.1.lent;
   },
 )
@@ -78,3 +80,11 @@ returns-clause-moved g c r asked far there held =
       prev.1,
       subst (λ (ls : List ℕ). Told c.args.id (known_in c.args.config.now) c.args.config.now r (at_of c.args.node.now asked far) (λ last. at_of c.logs.node last far) ls c.logs.mended (g.O.Sink.written c.args.out.now) (g.O.Sink.written c.logs.out)) (take_all c.logs.place (logs_of specs) all) prev.2,
     )
+
+pub returns-in_err-whole-clause-disk_counts : goal.returns-in_err-whole-clause-disk_counts
+returns-in_err-whole-clause-disk_counts g c =
+    let p = err_from_is_err_and c.from_residual.result c.from_residual.ensures.1 in
+    rw (p.1, p.2) (counts_since _ _ _ _ c.logs.invariant.1.disk c.in_err-whole.ensures.disk_counts)
+
+pub returns-clause-disk_counts : goal.returns-clause-disk_counts
+returns-clause-disk_counts g c = c.logs.invariant.1.disk

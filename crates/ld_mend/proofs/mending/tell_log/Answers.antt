@@ -3,7 +3,7 @@ use Rattle.std.proofs.lemmas.Result.{err_from_is_err_and}
 use Rattle.ld_node.specs.Node.{plain_of, disk_of}
 use Rattle.ld_mend.specs.Course.{Tells}
 use Rattle.ld_mend.specs.Standing.{at_of}
-use Rattle.ld_mend.proofs.Causes.{whole_write}
+use Rattle.ld_mend.proofs.Causes.{whole_write, write_counts}
 use Rattle.ld_mend.proofs.Going.{moved_one, moved_on, halted_in, halted_on, stands_leaves}
 use Rattle.ld_mend.proofs.Logs.{and_true}
 use Rattle.ld_mend.proofs.Nodes.{stand}
@@ -36,3 +36,8 @@ returns-clause-moved g c known k r asked far there has held =
         mended_is = c.is_none.ensures ∙ and_true _;
       },
     )
+
+pub returns-in_err-tell_standing-clause-disk_counts : goal.returns-in_err-tell_standing-clause-disk_counts
+returns-in_err-tell_standing-clause-disk_counts g c =
+    let p = err_from_is_err_and c.from_residual-in_err-tell_standing.result c.from_residual-in_err-tell_standing.ensures.1 in
+    rw (p.1, p.2) (write_counts _ _ _ _ _ c.in_ok-lacks.ensures.disk_counts c.in_err-tell_standing.ensures.cause)

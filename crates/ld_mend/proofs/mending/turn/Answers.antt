@@ -1,10 +1,11 @@
-use Rattle.std.proofs.Common.{ℕ, List, [], sym, subst, inr}
+use Rattle.std.proofs.Common.{ℕ, List, [], sym, subst, inr, ◌∙◌}
 use Rattle.std.proofs.lemmas.Result.{err_from_is_err_and}
 use Rattle.ld_msg.specs.declared.msg.Msg.{Msg}
 use Rattle.ld_node.specs.Looks.{ticked}
 use Rattle.ld_node.specs.Node.{plain_of, disk_of}
 use Rattle.ld_mend.specs.Course.{At, Moved}
 use Rattle.ld_mend.specs.Standing.{at_of, AreFrom}
+use Rattle.ld_mend.proofs.Causes.{counts_since}
 use Rattle.ld_mend.proofs.Going.{moved_on, halted_here, halted_on}
 use Rattle.ld_mend.proofs.Takings.{on_right}
 use Rattle.ld_mend.proofs.Ticks.{asked_of}
@@ -59,3 +60,19 @@ returns-clause-moved g c known k r asked far there has held told =
         moved = moved_on c.args.id known k r (at_of c.args.node.now asked far) (at_of c.settle.new.node asks far) (at_of c.carry.new.node asks w.far) [] [] _ _ _ did.2 w.moved;
       };
     })
+
+pub returns-in_err-lacks-clause-disk_counts : goal.returns-in_err-lacks-clause-disk_counts
+returns-in_err-lacks-clause-disk_counts g c =
+    let p = err_from_is_err_and c.from_residual-in_err-lacks.result c.from_residual-in_err-lacks.ensures.1 in
+    rw (p.1, p.2) (counts_since _ _ _ _ c.in_ok-asks.ensures.disk_counts c.in_err-lacks.ensures.disk_counts)
+
+pub returns-in_default-clause-disk_counts : goal.returns-in_default-clause-disk_counts
+returns-in_default-clause-disk_counts g c = c.in_ok-lacks.ensures.disk_counts ∙ c.in_ok-asks.ensures.disk_counts
+
+pub returns-in_err-carry-clause-disk_counts : goal.returns-in_err-carry-clause-disk_counts
+returns-in_err-carry-clause-disk_counts g c =
+    let p = err_from_is_err_and c.from_residual-in_err-carry.result c.from_residual-in_err-carry.ensures.1 in
+    rw (p.1, p.2) (counts_since _ _ _ _ c.in_ok-asks.ensures.disk_counts c.in_err-carry.ensures.disk_counts)
+
+pub returns-clause-disk_counts : goal.returns-clause-disk_counts
+returns-clause-disk_counts g c = c.in_ok-carry.ensures.disk_counts ∙ c.in_ok-asks.ensures.disk_counts

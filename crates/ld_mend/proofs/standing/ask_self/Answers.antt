@@ -1,4 +1,4 @@
-use Rattle.std.proofs.Common.{◌∙◌, ℕ, List, Err, refl, sym, ap, inl, inr, true≢false}
+use Rattle.std.proofs.Common.{◌∙◌, ℕ, List, Err, refl, sym, ap, inl, inr, true≢false, ⊎_elim}
 use Rattle.ld_op.specs.Answers.{read_answer}
 use Rattle.ld_op.specs.Plain.{log_of}
 use Rattle.ld_node.specs.Changes.{kept, laid_with}
@@ -6,6 +6,7 @@ use Rattle.ld_node.specs.Msgs.{released_in}
 use Rattle.ld_node.specs.Node.{plain_of, released_of, layout_of, disk_of}
 use Rattle.ld_mend.specs.Course.{is_open}
 use Rattle.ld_mend.specs.Standing.{at_of, first_open}
+use Rattle.ld_mend.proofs.Causes.{node_counts}
 use Rattle.ld_mend.proofs.Going.{refused_leaves}
 use Rattle.ld_mend.proofs.Nodes.{at_is, stand}
 use Rattle.ld_mend.proofs.Own.{own_ask, own_op, own_open, own_released}
@@ -44,3 +45,11 @@ returns-clause-answer g c known k r asked far there has =
     (λ place is. did.damaged place there.holds (ap Err is))
     (λ is. inl (λ bytes may. stand g.D.Disk.seen g.D.Disk.may_leave old (plain_of old) refl there.holds bytes ((did.silent there.holds none).0.crash bytes may)))
     (inr (λ bytes may. stand g.D.Disk.seen g.D.Disk.may_leave old (plain_of old) refl there.holds bytes ((did.silent there.holds none).0.crash bytes may))))
+
+pub returns-in-Ok-clause-disk_counts : goal.returns-in-Ok-clause-disk_counts
+returns-in-Ok-clause-disk_counts g c = ⊎_elim (λ e. absurd cc) (λ same. same) c.in-Ok.ensures.steady
+
+pub returns-clause-disk_counts : goal.returns-clause-disk_counts
+returns-clause-disk_counts g c =
+    let did = c.in-Err.ensures in
+    rw c.stop_of.ensures (node_counts _ _ c.in-Err.fault (λ is. did.failed (ap Err is)) (λ is. true≢false (sym (did.needs_load.0 (ap Err is)) ∙ c.requires.works)) (⊎_elim (λ e. inl cc) (λ same. inr same) did.steady))

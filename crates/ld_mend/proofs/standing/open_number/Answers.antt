@@ -9,6 +9,7 @@ use Rattle.ld_node.specs.Msgs.{released_in}
 use Rattle.ld_node.specs.Node.{plain_of, released_of, disk_of}
 use Rattle.ld_mend.specs.Course.{is_open}
 use Rattle.ld_mend.specs.Standing.{at_of}
+use Rattle.ld_mend.proofs.Causes.{look_counts}
 use Rattle.ld_mend.proofs.Going.{looked_leaves}
 use Rattle.ld_mend.proofs.Nodes.{stand}
 use Rattle.ld_mend.proofs.standing.open_number.Goals as goal
@@ -50,3 +51,11 @@ returns-clause-stands g c known k r asked far there has held =
         c.new.ensures ∙ ap (λ e. numbered (e + 1) 1) lce,
       ),
     )
+
+pub returns-in-Err-clause-disk_counts : goal.returns-in-Err-clause-disk_counts
+returns-in-Err-clause-disk_counts g c = rw c.look_stop.ensures (look_counts _ c.in-Err.fault)
+
+pub returns-in_err-ask_self-clause-disk_counts : goal.returns-in_err-ask_self-clause-disk_counts
+returns-in_err-ask_self-clause-disk_counts g c =
+    let p = err_from_is_err_and c.from_residual.result c.from_residual.ensures.1 in
+    rw (p.1, p.2) c.in_err-ask_self.ensures.disk_counts

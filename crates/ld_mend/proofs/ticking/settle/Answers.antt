@@ -4,7 +4,7 @@ use Rattle.ld_node.specs.Looks.{ticked}
 use Rattle.ld_node.specs.Node.{plain_of, disk_of}
 use Rattle.ld_mend.specs.Course.{asked_by}
 use Rattle.ld_mend.specs.Standing.{at_of}
-use Rattle.ld_mend.proofs.Causes.{stop_since}
+use Rattle.ld_mend.proofs.Causes.{stop_since, counts_since}
 use Rattle.ld_mend.proofs.Going.{moved_here, moved_on, halted_here, halted_on}
 use Rattle.ld_mend.proofs.Nodes.{stand}
 use Rattle.ld_mend.proofs.Ticks.{again, asks_nothing, idles_nothing}
@@ -18,6 +18,7 @@ ticks-init g c = record {
   later = record { disk = omega arith; register = omega arith; output = omega arith };
   told = λ h. h;
   itself = refl;
+  disk = refl;
   lent = refl;
 }
 
@@ -69,6 +70,7 @@ ticks-preserved g c = record {
   later = record { disk = omega (arith, c.ticks.invariant.later.disk, c.in_ok-asks.ensures.later.disk); register = omega (arith, c.ticks.invariant.later.register, c.in_ok-asks.ensures.later.register); output = omega (arith, c.ticks.invariant.later.output, c.in_ok-asks.ensures.later.output) };
   told = λ h. c.in_ok-asks.ensures.told (c.ticks.invariant.told h);
   itself = c.in_ok-asks.ensures.itself ∙ c.ticks.invariant.itself;
+  disk = c.in_ok-asks.ensures.disk_counts ∙ c.ticks.invariant.disk;
   lent = c.in_ok-asks.ensures.lent ∙ c.ticks.invariant.lent;
 }
 
@@ -78,3 +80,17 @@ returns-clause-moved g c known k r asked far there has held =
     let left : List ℕ → Type 0 = g.D.Disk.may_leave (disk_of c.ticks.node) in
     halted_on c.args.id known k r left (at_of c.args.node.now asked far) (at_of c.ticks.node prev.2.0 far) [] _ _ _ _ prev.2.1
     (halted_here c.args.id known k r left (at_of c.ticks.node prev.2.0 far) _ _ (stand g.D.Disk.seen g.D.Disk.may_leave c.ticks.node (plain_of c.ticks.node) refl prev.0.holds))
+
+pub returns-in_err-asks-clause-disk_counts : goal.returns-in_err-asks-clause-disk_counts
+returns-in_err-asks-clause-disk_counts g c =
+    let p = err_from_is_err_and c.from_residual.result c.from_residual.ensures.1 in
+    rw (p.1, p.2) (counts_since _ _ _ _ c.ticks.invariant.disk c.in_err-asks.ensures.disk_counts)
+
+pub returns-in-Asked-clause-disk_counts : goal.returns-in-Asked-clause-disk_counts
+returns-in-Asked-clause-disk_counts g c = c.in_ok-asks.ensures.disk_counts ∙ c.ticks.invariant.disk
+
+pub returns-in-Nothing-clause-disk_counts : goal.returns-in-Nothing-clause-disk_counts
+returns-in-Nothing-clause-disk_counts g c = c.in_ok-asks.ensures.disk_counts ∙ c.ticks.invariant.disk
+
+pub returns-clause-disk_counts : goal.returns-clause-disk_counts
+returns-clause-disk_counts g c = c.ticks.invariant.disk

@@ -9,7 +9,7 @@ use Rattle.ld_mend.specs.Course.{Ticks, asked_by}
 use Rattle.ld_mend.specs.Lines.{ticked_text}
 use Rattle.ld_mend.specs.Standing.{at_of}
 use Rattle.ld_mend.specs.Stops.{counts}
-use Rattle.ld_mend.proofs.Causes.{of_node, whole_write}
+use Rattle.ld_mend.proofs.Causes.{of_node, whole_write, node_counts, write_counts}
 use Rattle.ld_mend.proofs.Going.{moved_one, halted_here, halted_in, refused_leaves, stands_leaves}
 use Rattle.ld_mend.proofs.Nodes.{plain_stays, stand, left_now}
 use Rattle.ld_mend.proofs.Ticks.{answered, fits, ticked_at}
@@ -81,3 +81,16 @@ returns-in-Err-clause-cause g c =
     (λ f is. (told.register f (ap Err is)).0)
     (λ is. told.register_failed (ap Err is))
     (λ place is. record { register = c.args.reg.now; same = refl; still = λ tells. tells; there = λ tells. told.register_damaged place (ap Err is) tells }))
+
+pub returns-clause-disk_counts : goal.returns-clause-disk_counts
+returns-clause-disk_counts g c = ⊎_elim (λ e. absurd cc) (λ same. same) c.in-Ok.ensures.steady
+
+pub returns-in_err-tell_ticked-clause-disk_counts : goal.returns-in_err-tell_ticked-clause-disk_counts
+returns-in_err-tell_ticked-clause-disk_counts g c =
+    let p = err_from_is_err_and c.from_residual.result c.from_residual.ensures.1 in
+    rw (p.1, p.2) (write_counts _ _ _ _ _ (⊎_elim (λ e. absurd cc) (λ same. same) c.in-Ok.ensures.steady) c.in_err-tell_ticked.ensures.cause)
+
+pub returns-in-Err-clause-disk_counts : goal.returns-in-Err-clause-disk_counts
+returns-in-Err-clause-disk_counts g c =
+    let told = c.in-Err.ensures in
+    rw c.stop_of.ensures (node_counts _ _ c.in-Err.fault (λ is. told.failed (ap Err is)) (λ is. true≢false (sym (told.needs_load.0 (ap Err is)) ∙ c.requires.works)) (⊎_elim (λ e. inl cc) (λ same. inr same) told.steady))

@@ -8,7 +8,7 @@ use Rattle.ld_mend.specs.Standing.{IsMended}
 use Rattle.ld_mend.proofs.Nodes.{at_is, stand}
 use Rattle.ld_mend.proofs.Takings.{on_right}
 use Rattle.ld_stopped.specs.Mending.{HasMended, HasHalted}
-use Rattle.ld_stopped.proofs.Mendings.{opened_on, lies_then, has_mended, has_halted, ended_so, stopped_so, ended_ok}
+use Rattle.ld_stopped.proofs.Mendings.{opened_on, lies_then, has_mended, has_halted, ended_so, stopped_so, ended_ok, ended_counts}
 use Rattle.ld_stopped.proofs.mending.mend_on.Goals as goal
 
 pub returns-in-Err-clause-mended : goal.returns-in-Err-clause-mended
@@ -60,3 +60,6 @@ pub returns-clause-later : goal.returns-clause-later
 returns-clause-later g c =
     let later = c.mend-mended.ensures.later in
     rw c.into_disk.ensures (record { disk = subst (λ n. n ≤ g.D.Disk.faults (disk_of c.mend-mended.new.node)) c.in-Ok.ensures.counts later.disk; register = later.register; output = later.output })
+
+pub returns-clause-disk_counts : goal.returns-clause-disk_counts
+returns-clause-disk_counts g c = rw (c.into_disk.ensures, c.ended.ensures) (ended_counts _ _ _ c.mend-mended.result c.in-Ok.ensures.counts c.mend-mended.ensures.disk_counts)
