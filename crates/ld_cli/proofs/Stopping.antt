@@ -143,6 +143,35 @@ disk_by before now (statuses.Moves from to) e = absurd e
 pub disk_so : (before now : ℕ) (ended : Result Unit Stop) (status : Status) → status ≡ status_done ended → MatchResult ended (λ _. now ≡ before) (DiskCounts before now) → DiskFaults before now status
 disk_so before now ended status is p = disk_by before now status (done_so (now ≡ before) (DiskCounts before now) ended status is p)
 
+mended_by : (failures failures_now before now : ℕ) (status : Status) → EndsMend failures failures_now (λ (whole : Bool). now ≡ before) (DiskCounts before now) status → DiskFaults before now status
+mended_by failures failures_now before now statuses.Ok e = e
+mended_by failures failures_now before now statuses.Usage e = absurd e
+mended_by failures failures_now before now (statuses.BadSchedule line place) e = absurd e
+mended_by failures failures_now before now statuses.NoMemory e = e
+mended_by failures failures_now before now statuses.Read e = absurd e
+mended_by failures failures_now before now statuses.Write e = e
+mended_by failures failures_now before now statuses.Disk e = e
+mended_by failures failures_now before now statuses.Register e = e
+mended_by failures failures_now before now statuses.Link e = e.0
+mended_by failures failures_now before now (statuses.BadFrame fault) e = e
+mended_by failures failures_now before now (statuses.Damaged which place) e = e
+mended_by failures failures_now before now statuses.Blank e = e
+mended_by failures failures_now before now (statuses.JournalFull which) e = e
+mended_by failures failures_now before now statuses.GenLimit e = absurd e
+mended_by failures failures_now before now statuses.NotDone e = e.0
+mended_by failures failures_now before now (statuses.Preempted by) e = absurd e
+mended_by failures failures_now before now statuses.LogLimit e = absurd e
+mended_by failures failures_now before now statuses.EpochLimit e = absurd e
+mended_by failures failures_now before now statuses.EpochFull e = absurd e
+mended_by failures failures_now before now statuses.SwapLimit e = e
+mended_by failures failures_now before now (statuses.Moves from to) e = absurd e
+
+-- the same of a node that is mended, by the nodes' counts of failures
+pub mended_disk : (failures failures_now first last before now : ℕ) (ended : Result Bool Stop) (status : Status) → first ≡ failures → last ≡ failures_now → status ≡ status_mended ended (nat_lt first last)
+    → MatchResult ended (λ _. now ≡ before) (DiskCounts before now) → DiskFaults before now status
+mended_disk failures failures_now first last before now ended status begins finishes is p =
+    mended_by failures failures_now before now status (mend_so failures failures_now first last (λ (whole : Bool). now ≡ before) (DiskCounts before now) ended status begins finishes is p)
+
 -- no link is called
 done_link : (T : Type 0) (S : Stop → Type 0) (n : ℕ) (status : Status) → EndsDone T S status → LinkFaults n n status
 done_link T S n statuses.Link e = absurd e

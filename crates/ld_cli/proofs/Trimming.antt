@@ -1,6 +1,6 @@
 -- How a trim ends, by its status.
 use Rattle.std.proofs.Common.{◌≡◌, ◌⊎◌, ◌≤◌, ◌<◌, ℕ, Bool, List, true, false, refl, sym, subst, inl, inr, codes, Ok, Err, arith}
-use Rattle.std.specs.Prelude.{nat_lt, Option, Some, Result, MatchResult, IfOk, IfErr}
+use Rattle.std.specs.Prelude.{nat_lt, Option, None, Some, Result, MatchResult, IfOk, IfErr}
 use Rattle.ld_io.specs.Causes.{Rose}
 use Rattle.ld_config.specs.declared.config.Config.{Config}
 use Rattle.ld_msg.specs.Register.{Register as Contents}
@@ -8,6 +8,7 @@ use Rattle.ld_wire.specs.declared.fault.WireFault.{WireFault}
 use Rattle.ld_dial.specs.Far.{Far}
 use Rattle.ld_words.specs.declared.command.TrimWords.{TrimWords}
 use Rattle.ld_rounds.specs.Drives.{counted}
+use Rattle.ld_rounds.specs.Endings.{EndedOff}
 use Rattle.ld_rounds.specs.Input.{Input}
 use Rattle.ld_rounds.specs.declared.ended.Ended.{Ended}
 use Rattle.ld_rounds.specs.declared.ended.Ended.TheVariants as ends
@@ -22,8 +23,12 @@ use Rattle.ld_cli.specs.declared.status.Status.{Status}
 use Rattle.ld_cli.specs.declared.status.Status.TheVariants as statuses
 use Rattle.ld_cli.specs.Clients.{status_of, EndsDrive}
 use Rattle.ld_cli.specs.Serving.{DiskFaults}
-use Rattle.ld_cli.specs.Trims.{trim_coming, Undone, status_told, EndsTold, Goes, RunsOn, HasDriven, Behind, IsTold, IsUntold, IsTrimmed}
+use Rattle.ld_cli.specs.Trims.{trim_coming, Undone, status_told, EndsTold, IsOffTrim, Goes, RunsOn, HasDriven, Behind, IsTold, IsUntold, IsTrimmed}
 use Rattle.ld_cli.proofs.Drives.{is_less, is_least, ends_so, never_usage, disk_stays, nothing_done}
+
+-- nothing begins no frame yet
+none_ended : (off : Option WireFault) → off ≡ None → EndedOff off ends.NoMemory
+none_ended off none = subst (λ (o : Option WireFault). EndedOff o ends.NoMemory) (sym none) tt
 
 undone_by : (P : Ended → Type 0) (ended : Ended) → (ended ≡ ends.Done → ⊥) → P ended → Undone P ended
 undone_by P ends.Done undone p = absurd (undone refl)
@@ -73,6 +78,18 @@ pub trim_never_reads : (before now : ℕ) (P : Ended → Type 0) (T : Bool → T
 trim_never_reads before now P T S status unread (inl e) is = unread (subst (EndsDrive before now (Undone P)) is e)
 trim_never_reads before now P T S status unread (inr e) is = subst (EndsTold before now T S) is e
 
+output_failed : (crowded : Type 0) (damaged : ℕ → Type 0) (i : Option Input) (writes writes_now : ℕ) (old new : Option (List ℕ)) → IsEndOfAppend crowded damaged i 0 0 writes writes_now old new ends.Write → Rose writes writes_now
+output_failed crowded damaged i writes writes_now old new (inl rose) = rose
+output_failed crowded damaged i writes writes_now old new (inr rose) = rose
+
+since_rose : (old middle new : ℕ) → old ≤ middle → Rose middle new → Rose old new
+since_rose old middle new later rose = omega (arith, later, rose)
+
+trim_write : (before now : ℕ) (P : Ended → Type 0) (T : Bool → Type 0) (S : StatusStop → Type 0) (old new : ℕ) → (P ends.Write → Rose old new) → (S (stops.Look looks.Write) → Rose old new)
+    → (status : Status) → EndsDrive before now (Undone P) status ⊎ EndsTold before now T S status → status ≡ statuses.Write → Rose old new
+trim_write before now P T S old new drove told status (inl e) is = drove (subst (EndsDrive before now (Undone P)) is e)
+trim_write before now P T S old new drove told status (inr e) is = told (subst (EndsTold before now T S) is e)
+
 told_disk : (before now : ℕ) (T : Bool → Type 0) (S : StatusStop → Type 0) (n : ℕ) (status : Status) → EndsTold before now T S status → DiskFaults n n status
 told_disk before now T S n statuses.Disk e = absurd e
 told_disk before now T S n _ e = refl
@@ -80,6 +97,14 @@ told_disk before now T S n _ e = refl
 pub trim_disk : (before now : ℕ) (P : Ended → Type 0) (T : Bool → Type 0) (S : StatusStop → Type 0) (n : ℕ) (status : Status) → EndsDrive before now P status ⊎ EndsTold before now T S status → DiskFaults n n status
 trim_disk before now P T S n status (inl e) = disk_stays before now P n n status e refl
 trim_disk before now P T S n status (inr e) = told_disk before now T S n status e
+
+-- ---- what it says of what begins no frame ----
+
+trim_off : (before now : ℕ) (P : Ended → Type 0) (T : Bool → Type 0) (S : StatusStop → Type 0) (off : Option WireFault) → ((fault : WireFault) → P (ends.BadFrame fault) → off ≡ Some fault) → ((fault : WireFault) → S (stops.BadFrame fault) → off ≡ Some fault)
+    → (status : Status) → EndsDrive before now (Undone P) status ⊎ EndsTold before now T S status → IsOffTrim off status
+trim_off before now P T S off drove told (statuses.BadFrame fault) (inl e) = drove fault e
+trim_off before now P T S off drove told (statuses.BadFrame fault) (inr e) = told fault e
+trim_off before now P T S off drove told _ e = tt
 
 -- ---- the whole ----
 
@@ -98,7 +123,7 @@ module _ {N G O : Type 0} (faults endings : N → ℕ) (tells : N → Config →
   all_of : (nodes now : N) (reg reg_now : G) (out out_now : O) (w : TrimWords) (status : Status)
       → IsTrimmed faults endings tells silent off fails told damaged holds may_hold shows misses written nodes now reg reg_now out out_now w status
       → IsTrimmed faults endings tells silent off fails told damaged holds may_hold shows misses written nodes now reg reg_now out out_now w status
-      × (status ≡ statuses.Usage → ⊥) × (status ≡ statuses.Read → ⊥) × ((n : ℕ) → DiskFaults n n status)
+      × (status ≡ statuses.Usage → ⊥) × (status ≡ statuses.Read → ⊥) × ((n : ℕ) → DiskFaults n n status) × IsOffTrim (off now) status × (status ≡ statuses.Write → Rose (misses out) (misses out_now))
   all_of nodes now reg reg_now out out_now w status is =
       let drove : Ended → Type 0 = HasDriven faults endings tells silent off fails told damaged holds may_hold shows misses written nodes now reg reg_now out out_now w in
       let tell : Bool → Type 0 = λ whole. Behind faults endings tells silent off fails told damaged holds may_hold shows misses written (IsTold faults endings tells silent off fails told damaged holds may_hold shows misses written now out_now w whole) nodes reg reg_now out w in
@@ -107,6 +132,10 @@ module _ {N G O : Type 0} (faults endings : N → ℕ) (tells : N → Config →
         trim_never_usage (faults nodes) (faults now) (Undone drove) tell stop status is,
         trim_never_reads (faults nodes) (faults now) drove tell stop status (λ d. input_never_fails (told reg → MayCrowd (may_hold reg) w.of.log) (λ place. told reg → damaged reg place) (Some (trim_coming (Some w.upto))) (misses out) (misses out_now) (Some (written out)) (Some (written out_now)) d.cause) is,
         λ n. trim_disk (faults nodes) (faults now) (Undone drove) tell stop n status is,
+        trim_off (faults nodes) (faults now) drove tell stop (off now) (λ fault d. d.off_as) (λ fault b. b.follows) status is,
+        trim_write (faults nodes) (faults now) drove tell stop (misses out) (misses out_now)
+            (λ d. output_failed (told reg → MayCrowd (may_hold reg) w.of.log) (λ place. told reg → damaged reg place) (Some (trim_coming (Some w.upto))) (misses out) (misses out_now) (Some (written out)) (Some (written out_now)) d.cause)
+            (λ b. since_rose (misses out) (misses b.output) (misses out_now) b.done.later b.follows) status is,
       )
 
   pub told_trims : (nodes middle now : N) (reg reg_now : G) (out output out_now : O) (w : TrimWords) (first last : ℕ) (heard : Result Bool StatusStop) (status : Status) → first ≡ faults nodes → last ≡ faults now → status ≡ status_told heard (nat_lt first last)
@@ -114,7 +143,7 @@ module _ {N G O : Type 0} (faults endings : N → ℕ) (tells : N → Config →
       → IfOk heard (λ whole. IsTold faults endings tells silent off fails told damaged holds may_hold shows misses written now out_now w whole middle output)
       → IfErr heard (λ stop. IsUntold faults endings tells silent off fails told damaged holds may_hold shows misses written now out_now stop middle output)
       → IsTrimmed faults endings tells silent off fails told damaged holds may_hold shows misses written nodes now reg reg_now out out_now w status
-      × (status ≡ statuses.Usage → ⊥) × (status ≡ statuses.Read → ⊥) × ((n : ℕ) → DiskFaults n n status)
+      × (status ≡ statuses.Usage → ⊥) × (status ≡ statuses.Read → ⊥) × ((n : ℕ) → DiskFaults n n status) × IsOffTrim (off now) status × (status ≡ statuses.Write → Rose (misses out) (misses out_now))
   told_trims nodes middle now reg reg_now out output out_now w first last heard status begins finishes is done tell stop = all_of nodes now reg reg_now out out_now w status
       (inr (told_so (faults nodes) (faults now) first last
       (λ whole. Behind faults endings tells silent off fails told damaged holds may_hold shows misses written (IsTold faults endings tells silent off fails told damaged holds may_hold shows misses written now out_now w whole) nodes reg reg_now out w)
@@ -124,7 +153,7 @@ module _ {N G O : Type 0} (faults endings : N → ℕ) (tells : N → Config →
   pub driven_undone : (nodes now : N) (reg reg_now : G) (out out_now : O) (w : TrimWords) (first last : ℕ) (ended : Ended) (status : Status) → first ≡ faults nodes → last ≡ faults now → status ≡ status_of ended (nat_lt first last) → (ended ≡ ends.Done → ⊥)
       → HasDriven faults endings tells silent off fails told damaged holds may_hold shows misses written nodes now reg reg_now out out_now w ended
       → IsTrimmed faults endings tells silent off fails told damaged holds may_hold shows misses written nodes now reg reg_now out out_now w status
-      × (status ≡ statuses.Usage → ⊥) × (status ≡ statuses.Read → ⊥) × ((n : ℕ) → DiskFaults n n status)
+      × (status ≡ statuses.Usage → ⊥) × (status ≡ statuses.Read → ⊥) × ((n : ℕ) → DiskFaults n n status) × IsOffTrim (off now) status × (status ≡ statuses.Write → Rose (misses out) (misses out_now))
   driven_undone nodes now reg reg_now out out_now w first last ended status begins finishes is undone drove = all_of nodes now reg reg_now out out_now w status
       (inl (undone_so (faults nodes) (faults now) first last (HasDriven faults endings tells silent off fails told damaged holds may_hold shows misses written nodes now reg reg_now out out_now w) ended status begins finishes is undone drove))
 
@@ -137,6 +166,8 @@ module _ {N G O : Type 0} (faults endings : N → ℕ) (tells : N → Config →
     cause = inl tt;
     refused = tt;
     off_as = tt;
+    ended_off = λ none. none_ended (off nodes) none;
+    later = omega arith;
   }
 
   -- a drive that went so goes on with each run that leads to its first state

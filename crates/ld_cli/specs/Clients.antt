@@ -59,16 +59,6 @@ Dials (Mend m) = Unit {0}
 Dials (Trim t) = Unit {0}
 Dials _ = ⊥
 
--- the command mends a stopped node
-abbrev pub Mends : Command → Type 0
-Mends (Mend m) = Unit {0}
-Mends _ = ⊥
-
--- the command trims a log
-abbrev pub Trims : Command → Type 0
-Trims (Trim t) = Unit {0}
-Trims _ = ⊥
-
 -- the command is over a stopped node's store, or trims a log, or copies a register
 abbrev pub Operates : Command → Type 0
 Operates (Mend m) = Unit {0}

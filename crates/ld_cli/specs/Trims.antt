@@ -16,7 +16,7 @@ use Rattle.ld_operate.specs.Heard.{IsBroken, IsNodeStop}
 use Rattle.ld_operate.specs.Trims.{HasTrims}
 use Rattle.ld_words.specs.declared.command.TrimWords.{TrimWords}
 use Rattle.ld_rounds.specs.Drives.{counted, HasBroken}
-use Rattle.ld_rounds.specs.Endings.{IsOffAs}
+use Rattle.ld_rounds.specs.Endings.{IsOffAs, IsEndedOff}
 use Rattle.ld_rounds.specs.Input.{Input, all_taken}
 use Rattle.ld_rounds.specs.Onward.{reached, EndsRun}
 use Rattle.ld_rounds.specs.Reaching.{Begins}
@@ -60,6 +60,11 @@ EndsTold before now told stopped statuses.Write = stopped (stops.Look looks.Writ
 EndsTold before now told stopped (statuses.BadFrame fault) = stopped (stops.BadFrame fault)
 EndsTold before now told stopped _ = ⊥
 
+-- where it ends by what begins no frame, that is why the nodes say so
+abbrev pub IsOffTrim : Option WireFault → Status → Type 0
+IsOffTrim off (statuses.BadFrame fault) = off ≡ Some fault
+IsOffTrim off _ = Unit {0}
+
 -- of nodes: their counts of failures and of ends, what they tell, whether they are silent, and which bytes begin no frame
 module _ {N G O : Type 0} (faults endings : N → ℕ) (tells : N → Config → Far → Type 0) (silent : N → Bool) (off : N → Option WireFault)
     -- of a register: its count of faults, whether it tells, where it is damaged, what it holds, what a crash may leave, and what it tells
@@ -84,6 +89,8 @@ module _ {N G O : Type 0} (faults endings : N → ℕ) (tells : N → Config →
     pub cause : IsEndOfAppend (told reg → MayCrowd (may_hold reg) w.of.log) (λ place. told reg → damaged reg place) (Some (trim_coming (Some w.upto))) 0 0 (misses out) (misses out_now) (Some (written out)) (Some (written out_now)) ended
     pub refused : IsRefused (λ place. told reg → damaged reg place) (told reg → HoldsSome (holds reg) × LacksRoom (holds reg_now)) (fails reg) (fails reg_now) ended
     pub off_as : IsOffAs (off now) ended
+    pub ended_off : IsEndedOff (off nodes) (off now) ended
+    pub later : misses out ≤ misses out_now
 
   -- the drive was done with these nodes and this output, and that is so from there on
   pub record Behind (T : N → O → Type 0) (nodes : N) (reg reg_now : G) (out : O) (w : TrimWords) : Type 0 where

@@ -70,6 +70,7 @@ pub(crate) fn mended<O: Sink, D: Disk, G: Register, N: Nodes>(
     ensures usage { result ≡ Status.Usage → ⊥ }
     ensures read { result ≡ Status.Read → ⊥ }
     ensures write { result ≡ Status.Write → Rose (O.faults out.old) (O.faults out.new) }
+    ensures disk { DiskFaults (D.faults disk.old) (D.faults disk.new) result }
 {
     let before = nodes.failures();
     let ended = mend_store(

@@ -38,7 +38,7 @@ ghost use Rattle.ld_append.specs.Acting.{MayCrowd, HoldsSome, LacksRoom};
 ghost use Rattle.ld_append.specs.Appends.{HasNone as HasNoSequencers, sequencing, IsAppended, IsEndOfAppend, IsRefused};
 ghost use Rattle.ld_tail.specs.Tails.{HasNone as HasNoReaders, IsTailed, IsTailEnd, EndsTail};
 ghost use Rattle.ld_cli.specs.Payloads.{payloads_in};
-ghost use Rattle.ld_cli.specs.Clients.{Drives, Looks, Shows, Gathers, Calls, Dials, Mends, Trims, Operates, AskForNone, EndsDrive, OnlyLooks};
+ghost use Rattle.ld_cli.specs.Clients.{Drives, Looks, Shows, Gathers, Calls, Dials, Operates, AskForNone, EndsDrive, OnlyLooks};
 ghost use Rattle.ld_cli.specs.Crowds.{IsCrowded};
 ghost use Rattle.ld_operate.specs.Heard.{IsBroken as HasFallenSilent, IsStatusStop};
 ghost use Rattle.ld_operate.specs.Status.{HasStatus};
@@ -47,7 +47,7 @@ ghost use Rattle.ld_cli.specs.Ends.{EndsBy, IsReplayed, IsSchedule, Completes};
 ghost use Rattle.ld_cli.specs.Exercise.{EndsExercise};
 ghost use Rattle.ld_cli.specs.Serving.{EndsServing, DiskFaults, RegisterFaults, LinkFaults};
 ghost use Rattle.ld_cli.specs.Stopped.{IsShown, IsReplaced, IsMended};
-ghost use Rattle.ld_cli.specs.Trims.{IsTrimmed};
+ghost use Rattle.ld_cli.specs.Trims.{IsOffTrim, IsTrimmed};
 
 use crate::clients::{appended, tailed};
 use crate::crowding::crowded;
@@ -208,13 +208,15 @@ pub fn run<I: Ready, O: Sink, D: Disk, G: Register, L: Link, N: Nodes, C: Crowd>
     // `trim`: the drive is as of an append of this one trim. Where it is done, the lines of how far each node has trimmed come
     // behind its own ones, and at Ok each has trimmed as far as was asked for.
     ensures trimmed { (w : TrimWanted) → Asks (map string_bytes words.now) (Trim w) → (disk.new ≡ disk.old) × IsTrimmed N.faults N.endings N.tells N.silent N.off G.faults G.told G.damaged G.holds G.may_hold G.tells O.faults O.written nodes.old nodes.new reg.old reg.new out.old out.new w result }
+    // `trim` as well ends with BadFrame only by the fault that the nodes found.
+    ensures off_trim { (w : TrimWanted) → Asks (map string_bytes words.now) (Trim w) → IsOffTrim (N.off nodes.new) result }
     // `register --copy` isn't carried out here: nothing is called.
     ensures copied { (w : CopyWanted) → Asks (map string_bytes words.now) (Copy w) → ((result ≡ Status.Ok) ⊎ (result ≡ Status.NoMemory)) × (out.new ≡ out.old) × (disk.new ≡ disk.old) × (reg.new ≡ reg.old) }
 
     // Each of these statuses comes only where the count of that object rose; at any other the last three stay.
     ensures read { result ≡ Status.Read → Rose (I.faults input.old) (I.faults input.new) }
-    ensures write { AskForNone Trims (map string_bytes words.now) → result ≡ Status.Write → Rose (O.faults out.old) (O.faults out.new) }
-    ensures disk { AskForNone Mends (map string_bytes words.now) → DiskFaults (D.faults disk.old) (D.faults disk.new) result }
+    ensures write { result ≡ Status.Write → Rose (O.faults out.old) (O.faults out.new) }
+    ensures disk { DiskFaults (D.faults disk.old) (D.faults disk.new) result }
     ensures register { AskForNone Looks (map string_bytes words.now) → RegisterFaults (G.faults reg.old) (G.faults reg.new) result }
     ensures link { AskForNone Calls (map string_bytes words.now) → LinkFaults (L.faults link.old) (L.faults link.new) result }
 
@@ -304,10 +306,11 @@ fn carry_out<I: Ready, O: Sink, D: Disk, G: Register, L: Link, N: Nodes, C: Crow
     ensures replaced { (w : ReplaceWanted) → command ≡ Replace w → IsReplaced D.faults D.seen D.may_leave O.faults O.written G.faults G.told G.damaged G.holds G.may_hold G.tells disk.old disk.new reg.old reg.new out.old out.new w result }
     ensures shown { (w : ShowWanted) → command ≡ Show w → (reg.new ≡ reg.old) × IsShown D.faults D.seen D.may_leave O.faults O.written disk.old disk.new out.old out.new w result }
     ensures trimmed { (w : TrimWanted) → command ≡ Trim w → (disk.new ≡ disk.old) × IsTrimmed N.faults N.endings N.tells N.silent N.off G.faults G.told G.damaged G.holds G.may_hold G.tells O.faults O.written nodes.old nodes.new reg.old reg.new out.old out.new w result }
+    ensures off_trim { (w : TrimWanted) → command ≡ Trim w → IsOffTrim (N.off nodes.new) result }
     ensures copied { (w : CopyWanted) → command ≡ Copy w → (result ≡ Status.Ok) × (out.new ≡ out.old) × (disk.new ≡ disk.old) × (reg.new ≡ reg.old) }
     ensures read { result ≡ Status.Read → Rose (I.faults input.old) (I.faults input.new) }
-    ensures write { (Trims command → ⊥) → result ≡ Status.Write → Rose (O.faults out.old) (O.faults out.new) }
-    ensures disk { (Mends command → ⊥) → DiskFaults (D.faults disk.old) (D.faults disk.new) result }
+    ensures write { result ≡ Status.Write → Rose (O.faults out.old) (O.faults out.new) }
+    ensures disk { DiskFaults (D.faults disk.old) (D.faults disk.new) result }
     ensures register { (Looks command → ⊥) → RegisterFaults (G.faults reg.old) (G.faults reg.new) result }
     ensures link { (Calls command → ⊥) → LinkFaults (L.faults link.old) (L.faults link.new) result }
     ensures unread { (seed events : ℕ) → command ≡ Exercise seed events → input.new ≡ input.old }

@@ -1,17 +1,18 @@
 // A log is trimmed, over its nodes.
-ghost use Rattle.std.specs.Prelude.{◌≡◌, ◌⊎◌, ℕ, nat_lt, true, Some};
+ghost use Rattle.std.specs.Prelude.{◌≡◌, ◌≤◌, ◌⊎◌, ℕ, nat_lt, true, Some};
+ghost use Rattle.ld_io.specs.Causes.{Rose};
 ghost use Rattle.ld_config.specs.Bounds.{IsInBounds};
 ghost use Rattle.ld_register.specs.Bounds.{IsSpec};
 ghost use Rattle.ld_machine.specs.State.{State};
 ghost use Rattle.ld_dial.specs.Far.{Far};
 ghost use Rattle.ld_words.specs.Bounds.{IsTrimInBounds};
 ghost use Rattle.ld_rounds.specs.Drives.{counted};
-ghost use Rattle.ld_rounds.specs.Endings.{IsOffAs};
+ghost use Rattle.ld_rounds.specs.Endings.{IsOffAs, IsEndedOff};
 ghost use Rattle.ld_rounds.specs.Reaching.{Begins};
 ghost use Rattle.ld_append.specs.Acting.{HoldsSome, LacksRoom, IsSpecOf, IsUnset, MayCrowd};
 ghost use Rattle.ld_append.specs.Appends.{HasNone as HasNoSequencers, IsAppended, IsEndOfAppend, IsRefused};
 ghost use Rattle.ld_cli.specs.Serving.{DiskFaults};
-ghost use Rattle.ld_cli.specs.Trims.{trim_coming, status_told, HasDriven, IsTrimmed};
+ghost use Rattle.ld_cli.specs.Trims.{trim_coming, status_told, IsOffTrim, HasDriven, IsTrimmed};
 
 use crate::clients::{name_of, status_of};
 use crate::looks::status_of_nodes;
@@ -46,6 +47,8 @@ fn trim_log<O: Sink, G: Register, N: Nodes>(
     ensures ends { IsEndOfAppend (G.told reg.old → MayCrowd (G.may_hold reg.old) spec.now.log) (λ place. G.told reg.old → G.damaged reg.old place) (Some (trim_coming asked.old.upto)) 0 0 (O.faults out.old) (O.faults out.new) (Some (O.written out.old)) (Some (O.written out.new)) result }
     ensures refused { IsRefused (λ place. G.told reg.old → G.damaged reg.old place) (G.told reg.old → HoldsSome (G.holds reg.old) × LacksRoom (G.holds reg.new)) (G.faults reg.old) (G.faults reg.new) result }
     ensures off { IsOffAs (N.off nodes.new) result }
+    ensures ended { IsEndedOff (N.off nodes.old) (N.off nodes.new) result }
+    ensures later { O.faults out.old ≤ O.faults out.new }
 {
     let (ended, _) = append(
         alloc,
@@ -112,6 +115,8 @@ pub(crate) fn trimmed<O: Sink, G: Register, N: Nodes>(
     ensures trimmed { IsTrimmed N.faults N.endings N.tells N.silent N.off G.faults G.told G.damaged G.holds G.may_hold G.tells O.faults O.written nodes.old nodes.new reg.old reg.new out.old out.new words.now result }
     ensures usage { result ≡ Status.Usage → ⊥ }
     ensures read { result ≡ Status.Read → ⊥ }
+    ensures write { result ≡ Status.Write → Rose (O.faults out.old) (O.faults out.new) }
+    ensures off { IsOffTrim (N.off nodes.new) result }
     ensures disk { (n : ℕ) → DiskFaults n n result }
 {
     let before = nodes.failures();

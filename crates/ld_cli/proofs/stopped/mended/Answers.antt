@@ -1,4 +1,4 @@
-use Rattle.ld_cli.proofs.Stopping.{mended_so}
+use Rattle.ld_cli.proofs.Stopping.{mended_so, mended_disk}
 use Rattle.ld_cli.proofs.stopped.mended.Goals as goal
 
 pub returns : goal.returns
@@ -10,4 +10,11 @@ returns g c =
     c.args.disk.now c.mend_store-ended.new.disk c.args.reg.now c.mend_store-ended.new.reg c.args.nodes.now c.mend_store-ended.new.nodes c.args.out.now c.mend_store-ended.new.out c.args.words.now
     c.failures-before.result c.failures-now.result c.mend_store-ended.result c.status_of_mend.result c.failures-before.ensures c.failures-now.ensures c.status_of_mend.ensures
     e.mended e.formatted e.cause e.told in
-    record { mended = m.0; usage = m.1; read = m.2; write = m.3 }
+    record {
+      mended = m.0;
+      usage = m.1;
+      read = m.2;
+      write = m.3;
+      disk = mended_disk (g.N.Nodes.faults c.args.nodes.now) (g.N.Nodes.faults c.mend_store-ended.new.nodes) c.failures-before.result c.failures-now.result (g.D.Disk.faults c.args.disk.now) (g.D.Disk.faults c.mend_store-ended.new.disk)
+          c.mend_store-ended.result c.status_of_mend.result c.failures-before.ensures c.failures-now.ensures c.status_of_mend.ensures e.disk_counts;
+    }

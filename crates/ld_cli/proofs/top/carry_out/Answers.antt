@@ -43,10 +43,10 @@ pub returns-in-Append-clause-read : goal.returns-in-Append-clause-read
 returns-in-Append-clause-read g c = append_read_rose _ _ _ _ _ _ _ _ _ _ _ c.appended.result c.appended.ensures.ends
 
 pub returns-in-Append-clause-write : goal.returns-in-Append-clause-write
-returns-in-Append-clause-write g c = λ none. append_write_rose _ _ _ _ _ _ _ _ _ _ _ c.appended.result c.appended.ensures.ends
+returns-in-Append-clause-write g c = append_write_rose _ _ _ _ _ _ _ _ _ _ _ c.appended.result c.appended.ensures.ends
 
 pub returns-in-Append-clause-disk : goal.returns-in-Append-clause-disk
-returns-in-Append-clause-disk g c = λ none. disk_stays (g.N.Nodes.faults c.args.nodes.now) (g.N.Nodes.faults c.appended.new.nodes)
+returns-in-Append-clause-disk g c = disk_stays (g.N.Nodes.faults c.args.nodes.now) (g.N.Nodes.faults c.appended.new.nodes)
     (IsEndOfAppend (g.G.Register.told c.args.reg.now → MayCrowd (g.G.Register.may_hold c.args.reg.now) c.in-Append.append.of.log) (λ place. g.G.Register.told c.args.reg.now → g.G.Register.damaged c.args.reg.now place) (payloads_in c.in-Append.append.batches (left_of (g.I.Source.known c.args.input.now) (g.I.Source.gave c.args.input.now))) (g.I.Source.faults c.args.input.now) (g.I.Source.faults c.appended.new.input) (g.O.Sink.faults c.args.out.now) (g.O.Sink.faults c.appended.new.out)
     (Some (g.O.Sink.written c.args.out.now)) (Some (g.O.Sink.written c.appended.new.out)))
     _ _ c.appended.result c.appended.ensures.ends refl
@@ -74,12 +74,12 @@ returns-in-Tail-clause-read g c = λ is. absurd (tail_never_reads (λ place. g.G
     c.tailed.result c.tailed.ensures.ends is)
 
 pub returns-in-Tail-clause-write : goal.returns-in-Tail-clause-write
-returns-in-Tail-clause-write g c = λ none. tail_write_rose (λ place. g.G.Register.told c.args.reg.now → g.G.Register.damaged c.args.reg.now place) (g.N.Nodes.faults c.args.nodes.now) (g.N.Nodes.faults c.tailed.new.nodes)
+returns-in-Tail-clause-write g c = tail_write_rose (λ place. g.G.Register.told c.args.reg.now → g.G.Register.damaged c.args.reg.now place) (g.N.Nodes.faults c.args.nodes.now) (g.N.Nodes.faults c.tailed.new.nodes)
     (g.G.Register.faults c.args.reg.now) (g.G.Register.faults c.tailed.new.reg) (g.O.Sink.faults c.args.out.now) (g.O.Sink.faults c.tailed.new.out)
     c.tailed.result c.tailed.ensures.ends
 
 pub returns-in-Tail-clause-disk : goal.returns-in-Tail-clause-disk
-returns-in-Tail-clause-disk g c = λ none. disk_stays (g.N.Nodes.faults c.args.nodes.now) (g.N.Nodes.faults c.tailed.new.nodes)
+returns-in-Tail-clause-disk g c = disk_stays (g.N.Nodes.faults c.args.nodes.now) (g.N.Nodes.faults c.tailed.new.nodes)
     (IsTailEnd (λ place. g.G.Register.told c.args.reg.now → g.G.Register.damaged c.args.reg.now place) (g.G.Register.faults c.args.reg.now) (g.G.Register.faults c.tailed.new.reg) (g.O.Sink.faults c.args.out.now) (g.O.Sink.faults c.tailed.new.out))
     _ _ c.tailed.result c.tailed.ensures.ends refl
 

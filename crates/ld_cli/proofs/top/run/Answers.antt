@@ -223,6 +223,14 @@ pub returns-in-Ok-None-clause-trimmed : goal.returns-in-Ok-None-clause-trimmed
 returns-in-Ok-None-clause-trimmed g c = λ w asks.
     absurd (asked_none (map string_bytes c.args.words.now) c.in-Ok-None.field-0 (Trim w) c.in-Ok-None.field-0-is c.in-Ok-None.ensures.asks asks)
 
+pub returns-in-Ok-Some-clause-off_trim : goal.returns-in-Ok-Some-clause-off_trim
+returns-in-Ok-Some-clause-off_trim g c = λ w asks.
+    c.carry_out.ensures.off_trim w (asked_one (map string_bytes c.args.words.now) c.in-Ok-Some.field-0 c.in-Ok-Some.command (Trim w) c.in-Ok-Some.field-0-is c.in-Ok-Some.ensures.asks asks)
+
+pub returns-in-Ok-None-clause-off_trim : goal.returns-in-Ok-None-clause-off_trim
+returns-in-Ok-None-clause-off_trim g c = λ w asks.
+    absurd (asked_none (map string_bytes c.args.words.now) c.in-Ok-None.field-0 (Trim w) c.in-Ok-None.field-0-is c.in-Ok-None.ensures.asks asks)
+
 pub returns-in-Ok-Some-clause-copied : goal.returns-in-Ok-Some-clause-copied
 returns-in-Ok-Some-clause-copied g c = λ w asks.
     let same = c.carry_out.ensures.copied w (asked_one (map string_bytes c.args.words.now) c.in-Ok-Some.field-0 c.in-Ok-Some.command (Copy w) c.in-Ok-Some.field-0-is c.in-Ok-Some.ensures.asks asks) in
@@ -233,12 +241,10 @@ returns-in-Ok-None-clause-copied g c = λ w asks.
     absurd (asked_none (map string_bytes c.args.words.now) c.in-Ok-None.field-0 (Copy w) c.in-Ok-None.field-0-is c.in-Ok-None.ensures.asks asks)
 
 pub returns-in-Ok-Some-clause-write : goal.returns-in-Ok-Some-clause-write
-returns-in-Ok-Some-clause-write g c = λ none.
-    c.carry_out.ensures.write (none c.in-Ok-Some.command (subst (λ (o : Option Command). MatchOption o (IsNoCommand (map string_bytes c.args.words.now)) (Asks (map string_bytes c.args.words.now))) c.in-Ok-Some.field-0-is c.in-Ok-Some.ensures.asks))
+returns-in-Ok-Some-clause-write g c = c.carry_out.ensures.write
 
 pub returns-in-Ok-Some-clause-disk : goal.returns-in-Ok-Some-clause-disk
-returns-in-Ok-Some-clause-disk g c = λ none.
-    c.carry_out.ensures.disk (none c.in-Ok-Some.command (subst (λ (o : Option Command). MatchOption o (IsNoCommand (map string_bytes c.args.words.now)) (Asks (map string_bytes c.args.words.now))) c.in-Ok-Some.field-0-is c.in-Ok-Some.ensures.asks))
+returns-in-Ok-Some-clause-disk g c = c.carry_out.ensures.disk
 
 pub returns-in-Ok-Some-clause-operated : goal.returns-in-Ok-Some-clause-operated
 returns-in-Ok-Some-clause-operated g c = λ asked asks operates.

@@ -47,4 +47,6 @@ returns g c =
       cause = subst (λ (o : Option ℕ). end c.args.words.now.of.log o) c.new-asked.ensures (subst (λ (l : ℕ). end l c.new-asked.result.upto) log c.trim_log.ensures.ends);
       refused = c.trim_log.ensures.refused;
       off_as = c.trim_log.ensures.off;
+      ended_off = c.trim_log.ensures.ended;
+      later = c.trim_log.ensures.later;
     }
